@@ -14,6 +14,7 @@ use Rattle.ob_types.specs.declared.desc.Desc.{Desc}
 use Rattle.ob_types.specs.declared.typed.TypedType.{TypedType}
 use Rattle.ob_rules.specs.declared.broken.Broken.{Broken}
 use Rattle.ob_rules.specs.declared.entity.Known.{Known}
+use Rattle.ob_rules.specs.declared.broken.Rule.TheVariants as rule
 use Rattle.ob_rules.specs.Judged.{notes_if}
 use Rattle.ob_rules.specs.Names.{Around, found_in_scope, predeclared, is_out}
 use Rattle.ob_rules.specs.Expressions.{phrase_of}
@@ -92,7 +93,7 @@ module _ (shown : QName → Option Desc) (unit : List ℕ) where
     pub bound : d.part.contents.bound ≡ []
     pub variables : d.part.contents.variables ≡ []
 
-  import_is : (b : Bool) (t : Ident) (bs : List Broken) → bytes_eq t.name unit ≡ false → (notes_if b 5 t.pos).broken ++ bs ≡ [] → IsKnown (import_entity b t) × EntityStands AnyValue unit shown [] (import_entity b t)
+  import_is : (b : Bool) (t : Ident) (bs : List Broken) → bytes_eq t.name unit ≡ false → (notes_if b rule.ReservedModule t.pos).broken ++ bs ≡ [] → IsKnown (import_entity b t) × EntityStands AnyValue unit shown [] (import_entity b t)
   import_is true t bs h e = not_empty _ bs e
   import_is false t bs h e = (tt, h)
 

@@ -19,6 +19,7 @@ use Rattle.ob_types.specs.declared.typed.TypedVariable.{TypedVariable}
 use Rattle.ob_rules.specs.declared.notes.Later.{Later}
 use Rattle.ob_rules.specs.declared.entity.Entity.{Entity}
 use Rattle.ob_rules.specs.declared.entity.Known.{Known}
+use Rattle.ob_rules.specs.declared.broken.Rule.TheVariants as rule
 use Rattle.ob_rules.specs.Judged.{Judged, both, made, notes_if, ◌▷◌}
 use Rattle.ob_rules.specs.Names.{Around, found_in_scope, is_among, is_out}
 use Rattle.ob_rules.specs.Phrases.{Phrase}
@@ -43,7 +44,7 @@ use Rattle.law_acyclic.proofs.Typings.{Tells, AreTold, are_told_more, nil_tell, 
 use Rattle.law_acyclic.proofs.Sections.{E, known_place}
 use Rattle.law_lists.proofs.Lists.{Anything, all_both, back_empty, front_empty}
 
-twice_nil : (b : Bool) (at : Pos) → (notes_if b 1 at).later ≡ []
+twice_nil : (b : Bool) (at : Pos) → (notes_if b rule.DeclaredTwice at).later ≡ []
 twice_nil true at = refl
 twice_nil false at = refl
 
@@ -52,7 +53,7 @@ nil_nil at literal.Nil = refl
 nil_nil at v = refl
 
 nil_speaks : (at : Pos) (v : Value) → Speaks Anything (no_nil at v)
-nil_speaks at literal.Nil = breaks_speaks {A = Value} Anything 10 at
+nil_speaks at literal.Nil = breaks_speaks {A = Value} Anything rule.NotConstant at
 nil_speaks at v = λ e. tt
 
 module _ (unit : List ℕ) (shown : QName → Option Desc) (out : is_out unit ≡ false) (path : List ℕ) (names : List (List ℕ)) where

@@ -14,6 +14,7 @@ use Rattle.ob_types.specs.declared.desc.Desc.TheVariants as desc
 use Rattle.ob_types.specs.declared.typed.TypedType.{TypedType}
 use Rattle.ob_rules.specs.declared.notes.Later.{Later}
 use Rattle.ob_rules.specs.declared.entity.Known.{Known}
+use Rattle.ob_rules.specs.declared.broken.Rule.TheVariants as rule
 use Rattle.ob_rules.specs.Judged.{Judged, Notes, if_sound, paired, sound, both, made, noted}
 use Rattle.ob_rules.specs.Shapes.{is_structured}
 use Rattle.ob_rules.specs.Names.{Around, map_of, type_named, found_in_scope, is_out}
@@ -173,7 +174,7 @@ module _ (unit : List ℕ) (shown : QName → Option Desc) (out : is_out unit �
   result_tell u k None = λ e. (refl, tt)
   result_tell u k (Some q) =
       then_tell (λ ls t. (ls ≡ []) × T u.own t) (IsResult u) (type_named u q) (result_fits u (first_of q)) (name_tell unit shown out path names u k q)
-      (λ t h. unless_tell (λ ms. IsResult u ((type_named u q).notes.later ++ ms)) (is_structured (map_of u) t) 17 (first_of q) (Some t) (λ e. (ap (λ ls. ls ++ []) h.0, (h.1, seen_at unit shown out path names u k t h.1 is_structured false e))))
+      (λ t h. unless_tell (λ ms. IsResult u ((type_named u q).notes.later ++ ms)) (is_structured (map_of u) t) rule.StructuredResult (first_of q) (Some t) (λ e. (ap (λ ls. ls ++ []) h.0, (h.1, seen_at unit shown out path names u k t h.1 is_structured false e))))
 
   with_result_is : (own : List TypedType) (ls : List Later) (p : Parameters) (o : Option TypeRef) → AreParameters own ls p → IfThere (λ t. T own t × P own t) o → AreParameters own ls (with_result p o)
   with_result_is own ls p o h r = record {

@@ -1,7 +1,8 @@
 -- What is judged and breaks no rule: its node, beside what its notes leave for later.
-use Rattle.std.proofs.Common.{◌≡◌, ℕ, Bool, true, false, List, [], ◌++◌, Option, Some, None, refl, sym, subst, append-nil}
+use Rattle.std.proofs.Common.{◌≡◌, Bool, true, false, List, [], ◌++◌, Option, Some, None, refl, sym, subst, append-nil}
 use Rattle.ob_tree.specs.declared.pos.Pos.{Pos}
 use Rattle.ob_rules.specs.declared.notes.Later.{Later}
+use Rattle.ob_rules.specs.declared.broken.Rule.{Rule}
 use Rattle.ob_rules.specs.Judged.{Judged, Notes, sound, if_sound, paired, both, made, noted, unless, wants, also, ◌▷◌}
 use Rattle.law_names_procedures.proofs.Judges.{Has, not_empty, has_more}
 use Rattle.law_lists.proofs.Lists.{back_empty, front_empty}
@@ -35,15 +36,15 @@ both_after P Q R a b h k f = λ e.
 pub both_tell : {A B : Type 0} (P : List Later → A → Type 0) (Q : List Later → B → Type 0) (R : List Later → A × B → Type 0) (a : Judged A) (b : Judged B) → Tell P a → Tell Q b → ((x : A) (y : B) → P a.notes.later x → Q b.notes.later y → R (a.notes.later ++ b.notes.later) (x, y)) → Tell R (both a b)
 both_tell P Q R a b h k f = both_after P Q R a b h (λ x. k) f
 
-pub unless_tell : {A : Type 0} (P : List Later → A → Type 0) (b : Bool) (rule : ℕ) (at : Pos) (x : A) → (b ≡ false → P [] x) → Tell P (unless b rule at x)
+pub unless_tell : {A : Type 0} (P : List Later → A → Type 0) (b : Bool) (rule : Rule) (at : Pos) (x : A) → (b ≡ false → P [] x) → Tell P (unless b rule at x)
 unless_tell P true rule at x h = λ e. not_empty _ [] e
 unless_tell P false rule at x h = λ e. h refl
 
-pub wants_tell : {A : Type 0} (P : List Later → A → Type 0) (b : Bool) (rule : ℕ) (at : Pos) (x : A) → (b ≡ true → P [] x) → Tell P (wants b rule at x)
+pub wants_tell : {A : Type 0} (P : List Later → A → Type 0) (b : Bool) (rule : Rule) (at : Pos) (x : A) → (b ≡ true → P [] x) → Tell P (wants b rule at x)
 wants_tell P true rule at x h = λ e. h refl
 wants_tell P false rule at x h = λ e. not_empty _ [] e
 
-pub also_tell : {A : Type 0} (P : List Later → A → Type 0) (b : Bool) (rule : ℕ) (at : Pos) (j : Judged A) → (b ≡ false → Tell P j) → Tell P (also b rule at j)
+pub also_tell : {A : Type 0} (P : List Later → A → Type 0) (b : Bool) (rule : Rule) (at : Pos) (j : Judged A) → (b ≡ false → Tell P j) → Tell P (also b rule at j)
 also_tell P true rule at j h = λ e. not_empty _ j.notes.broken e
 also_tell P false rule at j h = h refl
 

@@ -20,6 +20,7 @@ use Rattle.ob_types.specs.declared.desc.Field.{Field}
 use Rattle.ob_types.specs.declared.typed.TypedType.{TypedType}
 use Rattle.ob_rules.specs.declared.notes.Later.{Later}
 use Rattle.ob_rules.specs.declared.notes.Later.TheVariants as later
+use Rattle.ob_rules.specs.declared.broken.Rule.TheVariants as rule
 use Rattle.ob_rules.specs.Judged.{Judged, Notes, sound, both, made, noted, each_sound, unless, wants, also, judge_later, ◌▷◌}
 use Rattle.ob_rules.specs.Shapes.{Map, is_open, is_record, is_structured, is_pointer, record_of}
 use Rattle.ob_rules.specs.Names.{Around, map_of, in_unit, is_among, is_declared, type_named, is_out}
@@ -143,7 +144,7 @@ module _ (unit : List ℕ) (shown : QName → Option Desc) (out : is_out unit �
   pub named_firm : (q : Qualident) (u : Around) → Place u → (name : List ℕ) (open_ok : Bool) → Tell (IsTyping u name (Some q) open_ok) (type_named u q ▷ named_typing u (first_of q) open_ok)
   named_firm q u k name open_ok =
       then_tell (λ ls t. (ls ≡ []) × T u.own t) (IsTyping u name (Some q) open_ok) (type_named u q) (named_typing u (first_of q) open_ok) (name_tell u k q)
-      (λ t h. unless_tell (λ ms. IsTyping u name (Some q) open_ok ((type_named u q).notes.later ++ ms)) _ 13 (first_of q) (record { of = t; made = [] }) (λ e. record {
+      (λ t h. unless_tell (λ ms. IsTyping u name (Some q) open_ok ((type_named u q).notes.later ++ ms)) _ rule.MisplacedOpenArray (first_of q) (record { of = t; made = [] }) (λ e. record {
         of = h.1;
         closed = λ f. inr (seen_at u k t h.1 is_open false (closed_if open_ok (is_open (map_of u) t) e f));
         made = tt;
@@ -230,7 +231,7 @@ module _ (unit : List ℕ) (shown : QName → Option Desc) (out : is_out unit �
   pub array_firm : (ls : List Phrase) → AllByRecursion LengthNil ls → (at : Pos) (element : Written) → IsFirm element → (u : Around) → Place u → (name : List ℕ) (m : Mark) (open_ok : Bool) → Tell (IsTyping u name None open_ok) (array u name m at open_ok ls element)
   array_firm [] c at element g u k name m open_ok =
       let j = element.typing u (element_name name) mark.Hidden element.open_array in
-      also_tell (IsTyping u name None open_ok) (not open_ok || element.open_array) 13 at (made (λ t. typed_as u name (desc.OpenArray m t.of) t.made) j)
+      also_tell (IsTyping u name None open_ok) (not open_ok || element.open_array) rule.MisplacedOpenArray at (made (λ t. typed_as u name (desc.OpenArray m t.of) t.made) j)
       (λ e. let b = or_false (not open_ok) element.open_array e in
       made_tell (IsTyping u (element_name name) element.name element.open_array) (IsTyping u name None open_ok) (λ t. typed_as u name (desc.OpenArray m t.of) t.made) j (g u k (element_name name) mark.Hidden element.open_array)
       (λ t i. typed_firm u k name open_ok (desc.OpenArray m t.of) t.made j.notes.later j.notes.later (inr (not_false open_ok b.0)) (same_within j.notes.later) (i.of, i.closed b.1) i.made (told_one (record { name = name; desc = desc.OpenArray m t.of }) t.made j.notes.later i.told)))
@@ -246,7 +247,7 @@ module _ (unit : List ℕ) (shown : QName → Option Desc) (out : is_out unit �
   base_tell u k (Some q) =
       made_tell (λ ls t. (ls ≡ []) × (T u.own t × Seen unit shown (IsOneOf u.own) is_record true t)) (IsBase u) (λ t. Some t) (type_named u q ▷ base_of (map_of u) (first_of q))
       (then_tell (λ ls t. (ls ≡ []) × T u.own t) (λ ls t. (ls ≡ []) × (T u.own t × Seen unit shown (IsOneOf u.own) is_record true t)) (type_named u q) (base_of (map_of u) (first_of q)) (name_tell u k q)
-      (λ t h. wants_tell (λ ms t. ((type_named u q).notes.later ++ ms ≡ []) × (T u.own t × Seen unit shown (IsOneOf u.own) is_record true t)) (is_some (record_of (map_of u) t)) 14 (first_of q) t (λ e. (ap (λ ls. ls ++ []) h.0, (h.1, seen_at u k t h.1 is_record true e)))))
+      (λ t h. wants_tell (λ ms t. ((type_named u q).notes.later ++ ms ≡ []) × (T u.own t × Seen unit shown (IsOneOf u.own) is_record true t)) (is_some (record_of (map_of u) t)) rule.UnfitBase (first_of q) t (λ e. (ap (λ ls. ls ++ []) h.0, (h.1, seen_at u k t h.1 is_record true e)))))
       (λ t h. h)
 
   -- the type of a field, and what fields leave for later
@@ -267,9 +268,9 @@ module _ (unit : List ℕ) (shown : QName → Option Desc) (out : is_out unit �
   field_tell u base before d t =
       let f : Mark → Field = λ m. record { name = d.ident.name; mark = m; place = 0; of = t } in
       let b = is_among d.ident.name before || is_some (member_in (map_of u) (record_in (map_of u) base) d.ident.name) in
-      later_tell t (inherits base d.ident) (inherits_field base d.ident) (marked u true d ▷ λ m. unless b 1 d.ident.pos (f m))
-      (then_tell (λ ls (m : Mark). ls ≡ []) (IsFieldOf t) (marked u true d) (λ m. unless b 1 d.ident.pos (f m)) (nil_tell Anything (λ ls m. ls ≡ []) (marked u true d) (mark_nil u true d) (mark_speaks u true d) (λ m i. refl))
-      (λ m h. unless_tell (λ ms. IsFieldOf t ((marked u true d).notes.later ++ ms)) b 1 d.ident.pos (f m) (λ e. (refl, subst (λ ls. AllByRecursion IsField (ls ++ [])) (sym h) tt))))
+      later_tell t (inherits base d.ident) (inherits_field base d.ident) (marked u true d ▷ λ m. unless b rule.DeclaredTwice d.ident.pos (f m))
+      (then_tell (λ ls (m : Mark). ls ≡ []) (IsFieldOf t) (marked u true d) (λ m. unless b rule.DeclaredTwice d.ident.pos (f m)) (nil_tell Anything (λ ls m. ls ≡ []) (marked u true d) (mark_nil u true d) (mark_speaks u true d) (λ m i. refl))
+      (λ m h. unless_tell (λ ms. IsFieldOf t ((marked u true d).notes.later ++ ms)) b rule.DeclaredTwice d.ident.pos (f m) (λ e. (refl, subst (λ ls. AllByRecursion IsField (ls ++ [])) (sym h) tt))))
 
   abbrev AreFieldsOf : TypeRef → List Later → List Field → Type 0
   AreFieldsOf t ls fs = AllByRecursion (λ (f : Field). f.of ≡ t) fs × AllByRecursion IsField ls

@@ -42,6 +42,8 @@ use Rattle.ob_types.specs.declared.typed.ExprType.TheVariants as kind
 use Rattle.ob_rules.specs.declared.values.Place.{Place}
 use Rattle.ob_rules.specs.declared.values.Valued.{Valued}
 use Rattle.ob_rules.specs.declared.values.Valued.TheVariants as valued
+use Rattle.ob_rules.specs.declared.broken.Rule.TheVariants as rule
+use Rattle.ob_rules.specs.declared.broken.Rule.{Rule}
 use Rattle.ob_rules.specs.Judged.{Judged, is_quiet, sound, breaks, both, also, wants, made, found_or, each_sound, ◌▷◌}
 use Rattle.ob_rules.specs.Shapes.{Map, same_name, pointed_record}
 use Rattle.ob_rules.specs.Names.{Around, map_of, type_desc, own_desc, out_string, find_name, variable_known, is_enclosing, entity_known, name_known, named, exported, export_known, shown_of, is_out, out_procedure, type_named}
@@ -68,9 +70,9 @@ use Rattle.law_lists.proofs.Lists.{and_parts}
 
 -- ---- literals
 
-wants_if : (P : Valued → Type 0) (b : Bool) (rule : ℕ) (at : Pos) (x : Valued) → (b ≡ true → P x) → Has P (wants b rule at x)
-wants_if P true rule at x h = h refl
-wants_if P false rule at x h = tt
+wants_if : (P : Valued → Type 0) (b : Bool) (which : Rule) (at : Pos) (x : Valued) → (b ≡ true → P x) → Has P (wants b which at x)
+wants_if P true which at x h = h refl
+wants_if P false which at x h = tt
 
 number_long : (n : ℕ) → nat_le n 2147483647 ≡ true → ConstantIs (literal.Int (pos n))
 number_long n e = grind (arith, nat_tests)
@@ -242,13 +244,13 @@ module _ (unit : List ℕ) (shown : QName → Option Desc) (are : AreShown shown
   tested_has types x t (Some a) = pointer_has x (designators.if_extends types guarded.Pointer (Some a) (pointed_record types t))
   tested_has types x t None = place_test types (place_in x) t
 
-  found_if : (at : Pos) (o : Option Valued) → IfThere V o → Has V (found_or 23 at o)
+  found_if : (at : Pos) (o : Option Valued) → IfThere V o → Has V (found_or rule.UnfitTypeTest at o)
   found_if at None h = tt
   found_if at (Some x) h = h
 
   is_has : (u : Around) (at : Pos) (x : Judged Valued) (r : Phrase) (q : Option Qualident) → Has V (is_test u at x r q)
   is_has u at x r (Some q) = any_then V (both (untestable (map_of u) at x) (type_named u q)) (λ p. test (map_of u) at p.0 p.1) (λ p. found_if at (test_of (map_of u) p.0 p.1 (record_if (map_of u) (type_in (type p.0)))) (tested_has (map_of u) p.0 p.1 (record_if (map_of u) (type_in (type p.0)))))
-  is_has u at x r None = any_then V (both x (r.value u)) (λ p. also (not (testable (map_of u) p.0)) 23 at (breaks 21 at)) (λ p. also_broken V (not (testable (map_of u) p.0)) 23 21 at)
+  is_has u at x r None = any_then V (both x (r.value u)) (λ p. also (not (testable (map_of u) p.0)) rule.UnfitTypeTest at (breaks rule.UnfitOperands at)) (λ p. also_broken V (not (testable (map_of u) p.0)) rule.UnfitTypeTest rule.UnfitOperands at)
 
   two_has : (u : Around) → K u → (o : Relation) (at : Pos) (x : Judged Valued) (r : Phrase) → Has V x → PhraseIs K r → Has V (both x (r.value u) ▷ λ p. related (map_of u) o at p.0 p.1)
   two_has u k o at x r h g = then_has (λ (p : Valued × Valued). V p.0 × V p.1) V (both x (r.value u)) (λ p. related (map_of u) o at p.0 p.1) (both_have V V x (r.value u) h (g.value u k)) (λ p i. related_is (map_of u) o at p.0 p.1 i.0 i.1)
@@ -338,8 +340,8 @@ module _ (unit : List ℕ) (shown : QName → Option Desc) (are : AreShown shown
 
   expr_cases : (y : Expr-F SX SB SD SR ST) → PX (roll-Expr (map-Expr SX SB SD SR ST Expr Selector Designator Element Tail (λ x. x.0) (λ x. x.0) (λ x. x.0) (λ x. x.0) (λ x. x.0) y))
   expr_cases (Expr-F.Designator n) = by_layers (Expr-F.Designator n.0) (λ e. designator_is (named_of n.0) (n.1 e))
-  expr_cases (Expr-F.Int at text) = by_layers (Expr-F.Int at text) (λ e. plain at (λ u. integer_literal at (integer_text text)) (λ u k. wants_if V (nat_le (integer_text text) 2147483647) 9 at (constant (literal.Int (pos (integer_text text)))) (number_long (integer_text text))))
-  expr_cases (Expr-F.Char at text) = by_layers (Expr-F.Char at text) (λ e. plain at (λ u. char_literal at (marked 0 text)) (λ u k. wants_if V (nat_le (marked 0 text) 255) 9 at (constant (literal.Char (marked 0 text))) (code_small (marked 0 text))))
+  expr_cases (Expr-F.Int at text) = by_layers (Expr-F.Int at text) (λ e. plain at (λ u. integer_literal at (integer_text text)) (λ u k. wants_if V (nat_le (integer_text text) 2147483647) rule.LiteralTooLarge at (constant (literal.Int (pos (integer_text text)))) (number_long (integer_text text))))
+  expr_cases (Expr-F.Char at text) = by_layers (Expr-F.Char at text) (λ e. plain at (λ u. char_literal at (marked 0 text)) (λ u k. wants_if V (nat_le (marked 0 text) 255) rule.LiteralTooLarge at (constant (literal.Char (marked 0 text))) (code_small (marked 0 text))))
   expr_cases (Expr-F.Str at text) = by_layers (Expr-F.Str at text) (λ e. plain at (λ u. sound (constant (text_value text))) (λ u k. text_is text e))
   expr_cases (Expr-F.Nil at) = by_layers (Expr-F.Nil at) (λ e. plain at (λ u. sound (constant literal.Nil)) (λ u k. tt))
   expr_cases (Expr-F.Set at xs) =

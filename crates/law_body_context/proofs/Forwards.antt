@@ -3,6 +3,7 @@ use Rattle.std.proofs.Common.{◌≡◌, refl, sym, ap, ◌∙◌, subst, ℕ, B
 use Rattle.std.specs.Prelude.{bytes_eq, cond, not, ◌&&◌}
 use Rattle.std.specs.List.{AllByRecursion, find}
 use Rattle.ob_tree.specs.declared.pos.Pos.{Pos}
+use Rattle.ob_rules.specs.declared.broken.Rule.TheVariants as rule
 use Rattle.ob_rules.specs.Judged.{notes_if}
 use Rattle.ob_rules.specs.Shapes.{Map}
 use Rattle.ob_rules.specs.Operators.{signatures_match}
@@ -26,7 +27,7 @@ pub record IsAnswered (map : Map) (all : List Head) (f : Head) (q : Parameters) 
   pub is : g.parameters ≡ Some r
   pub alike : signatures_match map (Some q.signature) (Some r.signature) ≡ true
 
-quiet_false : (b : Bool) (at : Pos) → (notes_if b 18 at).broken ≡ [] → b ≡ false
+quiet_false : (b : Bool) (at : Pos) → (notes_if b rule.UnmatchedForward at).broken ≡ [] → b ≡ false
 quiet_false true at e = absurd cc
 quiet_false false at e = refl
 

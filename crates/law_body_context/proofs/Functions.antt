@@ -24,6 +24,7 @@ use Rattle.ob_rules.specs.declared.broken.Predeclared.{Predeclared}
 use Rattle.ob_rules.specs.declared.broken.Predeclared.TheVariants as pre
 use Rattle.ob_rules.specs.declared.values.Place.{Place}
 use Rattle.ob_rules.specs.declared.values.Valued.{Valued}
+use Rattle.ob_rules.specs.declared.broken.Rule.TheVariants as rule
 use Rattle.ob_rules.specs.Judged.{Judged, sound, also}
 use Rattle.ob_rules.specs.Shapes.{Map, shape, array_at, array_of, basic_of}
 use Rattle.ob_rules.specs.Values.{is, width as width_of, is_integer, constant_in, place_in}
@@ -204,8 +205,8 @@ module _ (types : Map) (lengths : AreLengths types) where
   if_fits at None h = tt
   if_fits at (Some m) h = h
 
-  pub fits_is : (b : Bool) (f : Predeclared) (at : Pos) (xs : List Valued) → AllByRecursion V xs → Has M (also b 27 at (if_fit at (fit types f at xs)))
-  fits_is b f at xs h = also_has M b 27 at (if_fit at (fit types f at xs)) (if_fits at (fit types f at xs) (fit_is f at xs h))
+  pub fits_is : (b : Bool) (f : Predeclared) (at : Pos) (xs : List Valued) → AllByRecursion V xs → Has M (also b rule.MisplacedCall at (if_fit at (fit types f at xs)))
+  fits_is b f at xs h = also_has M b rule.MisplacedCall at (if_fit at (fit types f at xs)) (if_fits at (fit types f at xs) (fit_is f at xs h))
 
 -- MAX AND MIN
 

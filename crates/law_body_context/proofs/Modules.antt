@@ -20,6 +20,8 @@ use Rattle.ob_types.specs.declared.typed.TypedProcedure.{TypedProcedure}
 use Rattle.ob_types.specs.declared.typed.TypedModule.{TypedModule}
 use Rattle.ob_rules.specs.declared.broken.Broken.{Broken}
 use Rattle.ob_rules.specs.declared.entity.Known.{Known}
+use Rattle.ob_rules.specs.declared.broken.Rule.TheVariants as rule
+use Rattle.ob_rules.specs.declared.broken.Rule.{Rule}
 use Rattle.ob_rules.specs.Judged.{notes_if}
 use Rattle.ob_rules.specs.Names.{Around, predeclared, is_out}
 use Rattle.ob_rules.specs.Expressions.{phrase_of}
@@ -74,9 +76,9 @@ pub unbroken_is : {A : Type 0} (bs : List Broken) (x m : A) → if_unbroken bs x
 unbroken_is [] x m e = (refl, cc)
 unbroken_is (b ∷ bs) x m e = absurd cc
 
-not_noted : (b : Bool) (n : ℕ) (at : Pos) → (notes_if b n at).broken ≡ [] → b ≡ false
-not_noted true n at e = absurd cc
-not_noted false n at e = refl
+not_noted : (b : Bool) (which : Rule) (at : Pos) → (notes_if b which at).broken ≡ [] → b ≡ false
+not_noted true which at e = absurd cc
+not_noted false which at e = refl
 
 module _ (IsConstant : Value → Type 0) (truths : (b : Bool) → IsConstant (literal.Bool b)) (shown : QName → Option Desc) (m : TypedModule) (content : Contents) (out : is_out m.name ≡ false) (constants : (x : Expr) → is_spelled x ≡ true → ConstantPhrase IsConstant m.name shown out (phrase_of x)) (Also : Around → Type 0) (hands : (ds : List Decl) (xs : List Stmt) → HandsOn Also content (map declaration ds) (map judging xs)) where
   abbrev GoodDeclaration : Declaration → Type 0
@@ -357,9 +359,9 @@ module _ (IsConstant : Value → Type 0) (truths : (b : Bool) → IsConstant (li
   pub not_out : parts.notes.broken ≡ [] → is_out whole.name ≡ false
   not_out e =
       let b = is_out tree.name.name || is_system tree.name.name in
-      let n = notes_if b 5 tree.name.pos in
+      let n = notes_if b rule.ReservedModule tree.name.pos in
       let f = front_empty n.broken _ (front_empty (n.broken ++ (Rattle.ob_rules.specs.Declarations.closing_judged tree.name.name (Some tree.closing)).broken) _ e) in
-      first_false (is_out tree.name.name) (is_system tree.name.name) (not_noted b 5 tree.name.pos f)
+      first_false (is_out tree.name.name) (is_system tree.name.name) (not_noted b rule.ReservedModule tree.name.pos f)
 
   names_kept : (bound : List TypedType) (ts : List TypedType) → Grows ts (all_described bound ts)
   names_kept bound [] x h = absurd h.1.0

@@ -25,6 +25,7 @@ use Rattle.ob_types.specs.declared.typed.TypedType.{TypedType}
 use Rattle.ob_rules.specs.declared.entity.Entity.{Entity}
 use Rattle.ob_rules.specs.declared.entity.Entity.TheVariants as entity
 use Rattle.ob_rules.specs.declared.entity.Known.{Known}
+use Rattle.ob_rules.specs.declared.broken.Rule.TheVariants as rule
 use Rattle.ob_rules.specs.Judged.{Judged, sound, wants, both, made, noted, ◌▷◌, each_sound}
 use Rattle.ob_rules.specs.Shapes.{Map, record_of, is_structured, is_pointer}
 use Rattle.ob_rules.specs.Names.{Around, map_of, find_name, entity_known, type_of_entity, unless_variable_is, unless_variable, type_in, type_behind, type_by, type_named, is_out}
@@ -118,7 +119,7 @@ module _ (IsConstant : Value → Type 0) (unit : List ℕ) (shown : QName → Op
   as_over start u name d more h f g = record { made = (record { based = h; fresh = f }, g); of = λ e. absurd cc }
 
   pub name_over : (start : List TypedType) (q : Qualident) (u : Around) → L start u → (open_ok : Bool) → Has (T start true) (type_named u q ▷ named_typing u (first_of q) open_ok)
-  name_over start q u k open_ok = then_has (S start) (T start true) (type_named u q) (named_typing u (first_of q) open_ok) (name_stands start u k q) (λ t h. unless_has (T start true) _ 13 (first_of q) _ (record { made = tt; of = λ e. h }))
+  name_over start q u k open_ok = then_has (S start) (T start true) (type_named u q) (named_typing u (first_of q) open_ok) (name_stands start u k q) (λ t h. unless_has (T start true) _ rule.MisplacedOpenArray (first_of q) _ (record { made = tt; of = λ e. h }))
 
   any_name : (start : List TypedType) (b : Bool) (t : Typing) → T start b t → T start false t
   any_name start b t h = record { made = h.made; of = λ e. absurd cc }
@@ -137,7 +138,7 @@ module _ (IsConstant : Value → Type 0) (unit : List ℕ) (shown : QName → Op
 
   array_over : (ls : List Phrase) (at : Pos) (element : Written) → W element → (start : List TypedType) (u : Around) → L start u → (name : List ℕ) (m : Mark) (open_ok : Bool) → Has (T start false) (array u name m at open_ok ls element)
   array_over [] at element g start u k name m open_ok =
-      also_has (T start false) _ 13 at _
+      also_has (T start false) _ rule.MisplacedOpenArray at _
       (then_has (T start (is_some element.name)) (T start false) (element.typing u (element_name name) mark.Hidden element.open_array) (λ t. sound (typed_as u name (desc.OpenArray m t.of) t.made)) (g start u k (element_name name) mark.Hidden element.open_array) (λ t h. as_over start u name (desc.OpenArray m t.of) t.made tt tt h.made))
   array_over (l ∷ ls) at element g start u k name m open_ok = fixed_over (l ∷ ls) element g start u k name m
 
@@ -163,7 +164,7 @@ module _ (IsConstant : Value → Type 0) (unit : List ℕ) (shown : QName → Op
   base_over : (start : List TypedType) (map : Map) (at : Pos) (t : TypeRef) → S start t → Has (S start) (base_of map at t)
   base_over start map at t h = by (is_some (record_of map t))
     where
-      by : (b : Bool) → Has (S start) (wants b 14 at t)
+      by : (b : Bool) → Has (S start) (wants b rule.UnfitBase at t)
       by true = h
       by false = tt
 

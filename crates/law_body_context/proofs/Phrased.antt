@@ -42,6 +42,8 @@ use Rattle.ob_rules.specs.Calls.{misplaced, called_with, called, call_procedure,
 use Rattle.ob_rules.specs.Predeclared.{changed_meant, changed_as, values, parameter, asked_first, asked_second, parameters_behind, parameters, is_function, call_fit, type_parameter, extreme_of, basic_if, extreme_call, call_predeclared}
 use Rattle.ob_rules.specs.declared.meant.Asked.{Asked}
 use Rattle.ob_rules.specs.declared.meant.Asked.TheVariants as asked
+use Rattle.ob_rules.specs.declared.broken.Rule.TheVariants as rule
+use Rattle.ob_rules.specs.declared.broken.Rule.{Rule}
 use Rattle.ob_rules.specs.Designators as designators
 use Rattle.law_typing.specs.Known.{ConstantIs}
 use Rattle.law_methods_described.proofs.Nodes.{Has, then_has, any_then, also_has, unless_has}
@@ -51,9 +53,9 @@ use Rattle.law_body_context.proofs.Functions.{M, AreLengths, fits_is, extreme_of
 
 -- ---- parts
 
-pub wants_has : {A : Type 0} (P : A → Type 0) (b : Bool) (rule : ℕ) (at : Pos) (x : A) → P x → Has P (wants b rule at x)
-wants_has P true rule at x h = h
-wants_has P false rule at x h = tt
+pub wants_has : {A : Type 0} (P : A → Type 0) (b : Bool) (which : Rule) (at : Pos) (x : A) → P x → Has P (wants b which at x)
+wants_has P true which at x h = h
+wants_has P false which at x h = tt
 
 -- an expression: its value, and what it comes to as a designator
 pub record PhraseIs (K : Around → Type 0) (p : Phrase) : Type 0 where
@@ -84,23 +86,23 @@ place_has j = any_then M j (λ q. sound (means.Place q)) (λ q. tt)
 as_call_has : (j : Judged Valued) → Has V j → Has M (designators.as_call j)
 as_call_has j h = then_has V M j (λ v. sound (means.Call v)) h (λ v k. k)
 
-also_node : (b : Bool) (at : Pos) (x : TypedExpr) (t : ExprType) → Has V (also b 27 at (sound (computed x t)))
+also_node : (b : Bool) (at : Pos) (x : TypedExpr) (t : ExprType) → Has V (also b rule.MisplacedCall at (sound (computed x t)))
 also_node true at x t = tt
 also_node false at x t = tt
 
-pub also_broken : {A : Type 0} (P : A → Type 0) (b : Bool) (rule other : ℕ) (at : Pos) → Has P (also b rule at (breaks other at))
-also_broken P true rule other at = tt
-also_broken P false rule other at = tt
+pub also_broken : {A : Type 0} (P : A → Type 0) (b : Bool) (which other : Rule) (at : Pos) → Has P (also b which at (breaks other at))
+also_broken P true which other at = tt
+also_broken P false which other at = tt
 
 called_has : (u : Around) (w : Where) (at : Pos) (s : Signature) (ps : List Phrase) (f : List Actual → TypedExpr) → Has V (called u w at s ps f)
 called_has u w at s ps f =
     any_then V (actuals u s.params ps) (called_with w at s (length ps) f)
-    (λ xs. any_then V (wants (nat_eq (length ps) (length s.params)) 24 at xs) (λ ys. also (misplaced w (is_some s.result)) 27 at (sound (computed (f ys) (result_type s.result)))) (λ ys. also_node (misplaced w (is_some s.result)) at (f ys) (result_type s.result)))
+    (λ xs. any_then V (wants (nat_eq (length ps) (length s.params)) rule.WrongParameterCount at xs) (λ ys. also (misplaced w (is_some s.result)) rule.MisplacedCall at (sound (computed (f ys) (result_type s.result)))) (λ ys. also_node (misplaced w (is_some s.result)) at (f ys) (result_type s.result)))
 
 bound_has : (b : Bool) (u : Around) (w : Where) (at : Pos) (c : Chosen) (ps : List Phrase) → Has V (call_bound_sound b u w at c ps)
 bound_has false u w at c ps = any_then V (actuals u [] ps) (λ xs. silent) (λ xs. tt)
 bound_has true u w at c ps =
-    also_has V (calls.is_record_receiver c.method.receiver && ((receiver_place c).read_only && is_none c.base)) 26 at (called u w at c.method.signature ps (λ xs. e.Call (calls.bound_callee c c.base) (calls.receiver_actual c.method.receiver c ∷ xs) at c.method.signature.result))
+    also_has V (calls.is_record_receiver c.method.receiver && ((receiver_place c).read_only && is_none c.base)) rule.NotChangeable at (called u w at c.method.signature ps (λ xs. e.Call (calls.bound_callee c c.base) (calls.receiver_actual c.method.receiver c ∷ xs) at c.method.signature.result))
     (called_has u w at c.method.signature ps (λ xs. e.Call (calls.bound_callee c c.base) (calls.receiver_actual c.method.receiver c ∷ xs) at c.method.signature.result))
 
 receiver_has : (r : Receiver) (b : Bool) (at : Pos) (c : Chosen) → Has M (designators.with_receiver r b at c)
@@ -173,7 +175,7 @@ up_has u at (means.Call v) = tt
 up_has u at (means.Statement s) = tt
 
 place_round_has : (u : Around) (w : Where) (start at : Pos) (p : Place) (ps : List Phrase) (q : Option Qualident) (s : Option Signature) → Has M (designators.place_round u w start at p ps q s)
-place_round_has u w start at p ps (Some q) s = any_then M (type_named u q) (designators.guard (map_of u) at p) (λ t. any_then M (found_or 23 at (designators.guard_of (map_of u) p t)) (λ g. sound (means.Place (designators.guarded_by p g t at true))) (λ g. tt))
+place_round_has u w start at p ps (Some q) s = any_then M (type_named u q) (designators.guard (map_of u) at p) (λ t. any_then M (found_or rule.UnfitTypeTest at (designators.guard_of (map_of u) p t)) (λ g. sound (means.Place (designators.guarded_by p g t at true))) (λ g. tt))
 place_round_has u w start at p ps None (Some s) = as_call_has (call_variable u w start p s ps) (called_has u w start s ps (λ xs. e.CallVariable p.designator.inner xs start s.result))
 place_round_has u w start at p ps None None = tt
 
@@ -205,7 +207,7 @@ meant_exported u start at m x (desc.ProcType k s) h = tt
 meant_exported u start at m x (desc.Record r) h = tt
 
 changed_has : (start : Pos) (m : Meant) → M m → Has V (changed_meant start m)
-changed_has start (means.Place p) h = unless_has V p.read_only 26 start (value_at p) tt
+changed_has start (means.Place p) h = unless_has V p.read_only rule.NotChangeable start (value_at p) tt
 changed_has start (means.Call x) h = only_is x h
 changed_has start (means.Constant v) h = tt
 changed_has start (means.Procedure n s) h = tt
@@ -215,9 +217,9 @@ changed_has start (means.Predeclared f) h = tt
 changed_has start (means.Statement s) h = tt
 
 extreme_has : (max : Bool) (u : Around) (w : Where) (at : Pos) (ps : List Phrase) → Has M (extreme_call max u w at ps)
-extreme_has max u w at [] = also_broken M (misplaced w true) 27 28 at
-extreme_has max u w at (p ∷ []) = any_then M (type_parameter u p p.name) (λ t. also (misplaced w true) 27 at (extreme_of max at t (basic_if (map_of u) t))) (λ t. also_has M (misplaced w true) 27 at (extreme_of max at t (basic_if (map_of u) t)) (extreme_of_is max at t (basic_if (map_of u) t)))
-extreme_has max u w at (p ∷ q ∷ ps) = any_then M (type_parameter u p p.name) (λ t. each_sound (values u (q ∷ ps)) ▷ λ xs. also (misplaced w true) 27 at (breaks 28 at)) (λ t. any_then M (each_sound (values u (q ∷ ps))) (λ xs. also (misplaced w true) 27 at (breaks 28 at)) (λ xs. also_broken M (misplaced w true) 27 28 at))
+extreme_has max u w at [] = also_broken M (misplaced w true) rule.MisplacedCall rule.UnfitPredeclaredParameters at
+extreme_has max u w at (p ∷ []) = any_then M (type_parameter u p p.name) (λ t. also (misplaced w true) rule.MisplacedCall at (extreme_of max at t (basic_if (map_of u) t))) (λ t. also_has M (misplaced w true) rule.MisplacedCall at (extreme_of max at t (basic_if (map_of u) t)) (extreme_of_is max at t (basic_if (map_of u) t)))
+extreme_has max u w at (p ∷ q ∷ ps) = any_then M (type_parameter u p p.name) (λ t. each_sound (values u (q ∷ ps)) ▷ λ xs. also (misplaced w true) rule.MisplacedCall at (breaks rule.UnfitPredeclaredParameters at)) (λ t. any_then M (each_sound (values u (q ∷ ps))) (λ xs. also (misplaced w true) rule.MisplacedCall at (breaks rule.UnfitPredeclaredParameters at)) (λ xs. also_broken M (misplaced w true) rule.MisplacedCall rule.UnfitPredeclaredParameters at))
 
 module _ (K : Around → Type 0) (u : Around) (k : K u) (lengths : AreLengths (map_of u)) where
   meant_or_value : (p : Phrase) → PhraseIs K p → (o : Option (Around → Judged Meant)) → IfThere (λ (f : Around → Judged Meant). Has M (f u)) o → Has V (changed_as u p o)
@@ -227,7 +229,7 @@ module _ (K : Around → Type 0) (u : Around) (k : K u) (lengths : AreLengths (m
   parameter_has : (a : Asked) (p : Phrase) → PhraseIs K p → Has V (parameter u a p)
   parameter_has asked.Value p h = h.value u k
   parameter_has asked.Changed p h = meant_or_value p h p.meant (h.meant u k)
-  parameter_has asked.Constant p h = then_has V V (p.value u) (λ x. wants (is_some (constant_in x)) 10 p.start x) (h.value u k) (λ x i. wants_has V (is_some (constant_in x)) 10 p.start x i)
+  parameter_has asked.Constant p h = then_has V V (p.value u) (λ x. wants (is_some (constant_in x)) rule.NotConstant p.start x) (h.value u k) (λ x i. wants_has V (is_some (constant_in x)) rule.NotConstant p.start x i)
 
   values_have : (ps : List Phrase) → ArePhrases K ps → AllByRecursion (Has V) (values u ps)
   values_have [] h = tt
@@ -278,7 +280,7 @@ module _ (K : Around → Type 0) (u : Around) (k : K u) (lengths : AreLengths (m
   other_has : (w : Where) (start at : Pos) (m : Meant) (ps : List Phrase) → ArePhrases K ps → (q : Option Qualident) (a b c : Bool) → Has M (designators.other_round u w start at m ps q a b c)
   other_has w start at m ps h None true b c = call_has w start m ps h
   other_has w start at m ps h (Some q) true b c = call_has w start m ps h
-  other_has w start at m ps h (Some q) false true c = any_then M (type_named u q) (λ t. breaks 23 at) (λ t. tt)
+  other_has w start at m ps h (Some q) false true c = any_then M (type_named u q) (λ t. breaks rule.UnfitTypeTest at) (λ t. tt)
   other_has w start at m ps h (Some q) false false c = tt
   other_has w start at m ps h None false true true = call_has w start m ps h
   other_has w start at m ps h None false false true = call_has w start m ps h

@@ -21,6 +21,7 @@ use Rattle.ob_types.specs.declared.typed.TypedParameter.{TypedParameter}
 use Rattle.ob_rules.specs.declared.entity.Entity.{Entity}
 use Rattle.ob_rules.specs.declared.entity.Entity.TheVariants as entity
 use Rattle.ob_rules.specs.declared.entity.Known.{Known}
+use Rattle.ob_rules.specs.declared.broken.Rule.TheVariants as rule
 use Rattle.ob_rules.specs.Judged.{Judged, Notes, sound, both, made, if_sound, paired, unless}
 use Rattle.ob_rules.specs.Shapes.{same_name, passing_of, by_value, by_var, is_open, is_structured, is_record}
 use Rattle.ob_rules.specs.Names.{Around, map_of, type_desc, out_string, type_named, is_out}
@@ -263,7 +264,7 @@ module _ (IsConstant : Value → Type 0) (unit : List ℕ) (shown : QName → Op
   abbrev R : List TypedType → TypeRef → Type 0
   R own t = S own t × IsPlain IsConstant unit shown t
 
-  unless_fits : (own : List TypedType) (at : Pos) (t : TypeRef) (b : Bool) → (b ≡ false → R own t) → Has (IfThere (R own)) (unless b 17 at (Some t))
+  unless_fits : (own : List TypedType) (at : Pos) (t : TypeRef) (b : Bool) → (b ≡ false → R own t) → Has (IfThere (R own)) (unless b rule.StructuredResult at (Some t))
   unless_fits own at t true h = tt
   unless_fits own at t false h = h refl
 

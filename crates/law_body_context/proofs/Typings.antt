@@ -17,6 +17,7 @@ use Rattle.ob_types.specs.declared.desc.Desc.{Desc}
 use Rattle.ob_types.specs.declared.desc.Desc.TheVariants as desc
 use Rattle.ob_types.specs.declared.typed.TypedType.{TypedType}
 use Rattle.ob_types.specs.Maps.{is_type}
+use Rattle.ob_rules.specs.declared.broken.Rule.TheVariants as rule
 use Rattle.ob_rules.specs.Judged.{Judged, sound, both, ◌▷◌, each_sound}
 use Rattle.ob_rules.specs.Shapes.{is_structured, is_pointer}
 use Rattle.ob_rules.specs.Names.{Around, map_of, type_named, is_out}
@@ -90,7 +91,7 @@ module _ (IsConstant : Value → Type 0) (unit : List ℕ) (shown : QName → Op
   pub name_good : (q : Qualident) (u : Around) → K u → (open_ok : Bool) → Has (TypingIs u.own) (type_named u q ▷ named_typing u (first_of q) open_ok)
   name_good q u k open_ok =
       then_has (Stands unit shown u.own) (TypingIs u.own) (type_named u q) (named_typing u (first_of q) open_ok) (type_named_stands IsConstant unit shown u k q)
-      (λ t h. unless_has (TypingIs u.own) _ 13 (first_of q) _ (record { made = tt; of = h }))
+      (λ t h. unless_has (TypingIs u.own) _ rule.MisplacedOpenArray (first_of q) _ (record { made = tt; of = h }))
 
   some_length : (n : ℕ) → 1 ≤ suc n
   some_length n = omega arith
@@ -117,7 +118,7 @@ module _ (IsConstant : Value → Type 0) (unit : List ℕ) (shown : QName → Op
 
   pub array_good : (ls : List Phrase) → AreConstant ls → (at : Pos) (element : Written) → IsGood element → (u : Around) → K u → (name : List ℕ) (m : Mark) (open_ok : Bool) → Has (TypingIs u.own) (array u name m at open_ok ls element)
   array_good [] c at element g u k name m open_ok =
-      also_has (TypingIs u.own) _ 13 at _
+      also_has (TypingIs u.own) _ rule.MisplacedOpenArray at _
       (then_has (TypingIs u.own) (TypingIs u.own) (element.typing u (element_name name) mark.Hidden element.open_array) (λ t. sound (typed_as u name (desc.OpenArray m t.of) t.made)) (g u k (element_name name) mark.Hidden element.open_array) (λ t h. typed_is u k name (desc.OpenArray m t.of) t.made refl tt h.made))
   array_good (l ∷ ls) c at element g u k name m open_ok = fixed_good (l ∷ ls) c element g u k name m
 

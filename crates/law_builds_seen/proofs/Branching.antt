@@ -30,6 +30,7 @@ use Rattle.ob_rules.specs.declared.meant.Meant.{Meant}
 use Rattle.ob_rules.specs.declared.meant.Meant.TheVariants as means
 use Rattle.ob_rules.specs.declared.meant.Selects.{Selects}
 use Rattle.ob_rules.specs.declared.meant.Where.TheVariants.{InExpression}
+use Rattle.ob_rules.specs.declared.broken.Rule.TheVariants as rule
 use Rattle.ob_rules.specs.Judged.{Judged, sound, both, made, ◌▷◌}
 use Rattle.ob_rules.specs.Shapes.{Map, same_name}
 use Rattle.ob_rules.specs.Names.{Around, map_of, type_desc, out_string, named, find_name, type_named}
@@ -85,20 +86,20 @@ case_keeps k at x cs o g h i u s =
     let c = cases u (selects_if (map_of u) j.node) [] cs in
     then_keeps (λ (p : Valued × (List TypedCase × Option (List TypedStmt))). ValuedOk k p.0 × (AllByRecursion (CaseOk k) p.1.0 × IfThere (AreOk k) p.1.1)) (AreOk k) (both j (both c (in_turn_if o u))) _
     (both_keep (ValuedOk k) (λ (p : List TypedCase × Option (List TypedStmt)). AllByRecursion (CaseOk k) p.0 × IfThere (AreOk k) p.1) j (both c (in_turn_if o u))
-    (then_keeps (ValuedOk k) (ValuedOk k) (x.value u) (case_value (map_of u) x.start) (g.value u s) (λ v q. wants_keeps (ValuedOk k) _ 33 x.start v q))
+    (then_keeps (ValuedOk k) (ValuedOk k) (x.value u) (case_value (map_of u) x.start) (g.value u s) (λ v q. wants_keeps (ValuedOk k) _ rule.UnfitCase x.start v q))
     (both_keep (AllByRecursion (CaseOk k)) (IfThere (AreOk k)) c (in_turn_if o u) (cases_keep k u s (selects_if (map_of u) j.node) [] cs h) (turn_if_keeps k u s o i)))
     (λ p q. (case_s k (tree p.0) p.1.0 p.1.1 at (tree_ok k p.0 q.0) q.1.0 q.1.1, tt))
 
 -- ---- FOR
 
 for_variable_keeps : (k : Map) (u : Around) (at : Pos) (x : Ident) (e : Entity) → Keeps (PlaceOk k) (for_variable u at x e)
-for_variable_keeps k u at x (entity.Variable v t) = then_keeps (PlaceOk k) (PlaceOk k) (variable_named u x.pos v t false) (λ p. integer_place (map_of u) at p) (variable_keeps k u x.pos v t false) (λ p q. wants_keeps (PlaceOk k) _ 34 at p q)
+for_variable_keeps k u at x (entity.Variable v t) = then_keeps (PlaceOk k) (PlaceOk k) (variable_named u x.pos v t false) (λ p. integer_place (map_of u) at p) (variable_keeps k u x.pos v t false) (λ p q. wants_keeps (PlaceOk k) _ rule.UnfitFor at p q)
 for_variable_keeps k u at x (entity.TypeName t) = tt
 for_variable_keeps k u at x (entity.Module m) = tt
 for_variable_keeps k u at x e = tt
 
 bound_keeps : (k map : Map) (at : Pos) (p : Place) (j : Judged Valued) → Keeps (ValuedOk k) j → Keeps (E k) (bound_if map at (Some p) j)
-bound_keeps k map at p j h = then_keeps (ValuedOk k) (E k) j (for_bound map at p) h (λ x q. wants_keeps (E k) (fits map p.of x) 34 at (tree x) (tree_ok k x q))
+bound_keeps k map at p j h = then_keeps (ValuedOk k) (E k) j (for_bound map at p) h (λ x q. wants_keeps (E k) (fits map p.of x) rule.UnfitFor at (tree x) (tree_ok k x q))
 
 for_with_keeps : (k map : Map) (at : Pos) (o : Option Place) (a b : Judged Valued) (step : Judged ℤ) (body : Judged (List TypedStmt)) → Keeps (ValuedOk k) a → Keeps (ValuedOk k) b → Keeps (AreOk k) body → Keeps (AreOk k) (for_with map at o a b step body)
 for_with_keeps k map at None a b step body x y z = tt
@@ -135,7 +136,7 @@ with_meant_keeps k u s None x = designates_keeps k u s InExpression x [] tt
 with_meant_keeps k u s (Some m) x = qualified_keeps k u s m x (find_name u.known m.name)
 
 with_place_keeps : (k map : Map) (at : Pos) (m : Meant) → MeantOk k m → Keeps (PlaceOk k) (with_place map at m)
-with_place_keeps k map at (means.Place p) h = wants_keeps (PlaceOk k) _ 37 at p h
+with_place_keeps k map at (means.Place p) h = wants_keeps (PlaceOk k) _ rule.UnfitWith at p h
 with_place_keeps k map at m h = tt
 
 guard_test_ok : (k : Map) (p : Place) (g : Guarded) (q : QName) → PlaceOk k p → E k (guard_test p g q)

@@ -1,5 +1,5 @@
 -- What is judged names members that are there: what stands around, and how judgements are put together.
-use Rattle.std.proofs.Common.{◌≡◌, ℕ, Bool, true, false, List, [], ◌∷◌, Option, Some, None, sym, subst}
+use Rattle.std.proofs.Common.{◌≡◌, Bool, true, false, List, [], ◌∷◌, Option, Some, None, sym, subst}
 use Rattle.std.specs.List.{AllByRecursion}
 use Rattle.ob_tree.specs.declared.pos.Pos.{Pos}
 use Rattle.ob_types.specs.declared.typed.TypedExpr.{TypedExpr}
@@ -14,6 +14,7 @@ use Rattle.ob_rules.specs.declared.values.Valued.TheVariants as valued
 use Rattle.ob_rules.specs.declared.meant.Chosen.{Chosen}
 use Rattle.ob_rules.specs.declared.meant.Meant.{Meant}
 use Rattle.ob_rules.specs.declared.meant.Meant.TheVariants as means
+use Rattle.ob_rules.specs.declared.broken.Rule.{Rule}
 use Rattle.ob_rules.specs.Judged.{Judged, sound, if_sound, paired, both, made, each_sound, unless, wants, also, found_or, ◌▷◌}
 use Rattle.ob_rules.specs.Shapes.{Map}
 use Rattle.ob_rules.specs.Names.{Around, map_of}
@@ -90,19 +91,19 @@ pub each_keep : {A : Type 0} (Q : A → Type 0) (js : List (Judged A)) → AllBy
 each_keep Q [] h = tt
 each_keep Q (j ∷ js) h = made_keeps (λ p. Q p.0 × AllByRecursion Q p.1) (AllByRecursion Q) (λ p. p.0 ∷ p.1) (both j (each_sound js)) (both_keep Q (AllByRecursion Q) j (each_sound js) h.0 (each_keep Q js h.1)) (λ p q. q)
 
-pub unless_keeps : {A : Type 0} (Q : A → Type 0) (b : Bool) (rule : ℕ) (at : Pos) (x : A) → Q x → Keeps Q (unless b rule at x)
+pub unless_keeps : {A : Type 0} (Q : A → Type 0) (b : Bool) (rule : Rule) (at : Pos) (x : A) → Q x → Keeps Q (unless b rule at x)
 unless_keeps Q true rule at x h = tt
 unless_keeps Q false rule at x h = h
 
-pub wants_keeps : {A : Type 0} (Q : A → Type 0) (b : Bool) (rule : ℕ) (at : Pos) (x : A) → Q x → Keeps Q (wants b rule at x)
+pub wants_keeps : {A : Type 0} (Q : A → Type 0) (b : Bool) (rule : Rule) (at : Pos) (x : A) → Q x → Keeps Q (wants b rule at x)
 wants_keeps Q true rule at x h = h
 wants_keeps Q false rule at x h = tt
 
-pub found_keeps : {A : Type 0} (Q : A → Type 0) (rule : ℕ) (at : Pos) (o : Option A) → IfThere Q o → Keeps Q (found_or rule at o)
+pub found_keeps : {A : Type 0} (Q : A → Type 0) (rule : Rule) (at : Pos) (o : Option A) → IfThere Q o → Keeps Q (found_or rule at o)
 found_keeps Q rule at None h = tt
 found_keeps Q rule at (Some x) h = h
 
-pub also_keeps : {A : Type 0} (Q : A → Type 0) (b : Bool) (rule : ℕ) (at : Pos) (j : Judged A) → Keeps Q j → Keeps Q (also b rule at j)
+pub also_keeps : {A : Type 0} (Q : A → Type 0) (b : Bool) (rule : Rule) (at : Pos) (j : Judged A) → Keeps Q j → Keeps Q (also b rule at j)
 also_keeps Q true rule at j h = tt
 also_keeps Q false rule at j h = h
 

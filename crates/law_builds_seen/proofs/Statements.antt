@@ -19,6 +19,7 @@ use Rattle.ob_rules.specs.declared.values.Valued.{Valued}
 use Rattle.ob_rules.specs.declared.meant.Meant.{Meant}
 use Rattle.ob_rules.specs.declared.meant.Meant.TheVariants as means
 use Rattle.ob_rules.specs.declared.meant.Where.TheVariants.{AsStatement, Elsewhere}
+use Rattle.ob_rules.specs.declared.broken.Rule.TheVariants as rule
 use Rattle.ob_rules.specs.Judged.{Judged, sound, both, ◌▷◌}
 use Rattle.ob_rules.specs.Shapes.{Map, same_name, signature_at, is_array}
 use Rattle.ob_rules.specs.Names.{Around, map_of, type_desc, out_string}
@@ -63,7 +64,7 @@ turn_if_keeps k u s (Some fs) g = made_keeps (AreOk k) (IfThere (AreOk k)) (λ x
 -- ---- assignments and calls
 
 target_keeps : (k : Map) (at : Pos) (m : Meant) → MeantOk k m → Keeps (PlaceOk k) (target at m)
-target_keeps k at (means.Place p) h = unless_keeps (PlaceOk k) p.read_only 26 at p h
+target_keeps k at (means.Place p) h = unless_keeps (PlaceOk k) p.read_only rule.NotChangeable at p h
 target_keeps k at m h = tt
 
 assigned_tree_ok : (k : Map) (b : Bool) (x : Valued) → ValuedOk k x → E k (assigned_tree b x)
@@ -74,7 +75,7 @@ assigns_keep : (k map : Map) (at : Pos) (p : Place) (x : Valued) → PlaceOk k p
 assigns_keep k map at p x h g =
     let how = assignment_of map p x in
     let t = assigned_tree (is_array map p.of) x in
-    wants_keeps (AreOk k) (fits map p.of x) 31 at (stmt.Assign p.designator.inner how t at ∷ [])
+    wants_keeps (AreOk k) (fits map p.of x) rule.NotAssignable at (stmt.Assign p.designator.inner how t at ∷ [])
     (named_s k _ (Assign (designator_view p.designator.inner) how (expr_view t) at) (view_assign p.designator.inner how t at) (h, assigned_tree_ok k (is_array map p.of) x g), tt)
 
 pub assignment_keeps : (k : Map) (n : Named) (at : Pos) (x : Phrase) → NamedOk k n → PhraseOk k x → (u : Around) → Stands k u → Keeps (AreOk k) (assignment u n at x)
@@ -109,7 +110,7 @@ call_keeps k n g u s = then_keeps (MeantOk k) (AreOk k) (meant_by AsStatement n 
 -- ---- conditions and branches
 
 condition_keeps : (k : Map) (u : Around) → Stands k u → (x : Phrase) → PhraseOk k x → Keeps (E k) (condition u x)
-condition_keeps k u s x g = then_keeps (ValuedOk k) (E k) (x.value u) _ (g.value u s) (λ v h. wants_keeps (E k) _ 32 x.start (tree v) (tree_ok k v h))
+condition_keeps k u s x g = then_keeps (ValuedOk k) (E k) (x.value u) _ (g.value u s) (λ v h. wants_keeps (E k) _ rule.NotBoolean x.start (tree v) (tree_ok k v h))
 
 abbrev OneSeen : Map → OneBranch → Type 0
 OneSeen k b = ExprSeen k b.test × StmtsSeen k b.body
@@ -176,11 +177,11 @@ loop_keeps k at body h u s =
 -- ---- EXIT and RETURN
 
 pub exit_keeps : (k : Map) (u : Around) (at : Pos) → Keeps (AreOk k) (rules.exit u at)
-exit_keeps k u at = wants_keeps (AreOk k) u.in_loop 35 at (stmt.Exit ∷ []) (named_s k stmt.Exit Exit view_exit tt, tt)
+exit_keeps k u at = wants_keeps (AreOk k) u.in_loop rule.MisplacedExit at (stmt.Exit ∷ []) (named_s k stmt.Exit Exit view_exit tt, tt)
 
 returned_keeps : (k map : Map) (at : Pos) (o : Option TypeRef) (x : Valued) → ValuedOk k x → Keeps (AreOk k) (returned map at o x)
 returned_keeps k map at None x h = tt
-returned_keeps k map at (Some t) x h = wants_keeps (AreOk k) (fits map t x) 36 at (stmt.Return (Some (tree x)) ∷ []) (named_s k _ (Return (Some (expr_view (tree x)))) (view_return (Some (tree x))) (tree_ok k x h), tt)
+returned_keeps k map at (Some t) x h = wants_keeps (AreOk k) (fits map t x) rule.UnfitReturn at (stmt.Return (Some (tree x)) ∷ []) (named_s k _ (Return (Some (expr_view (tree x)))) (view_return (Some (tree x))) (tree_ok k x h), tt)
 
 none_keeps : (k : Map) (at : Pos) (o : Option TypeRef) → Keeps (AreOk k) (return_none at o)
 none_keeps k at None = (named_s k _ (Return None) (view_return None) tt, tt)

@@ -2,6 +2,8 @@
 use Rattle.std.proofs.Common.{◌≡◌, ℕ, suc, ◌+◌, ◌<◌, List, [], ◌∷◌, ◌++◌, length, map, refl, sym, ap, ◌∙◌, subst, arith, append_assoc, append-nil, length-append, Option, Some, None}
 use Rattle.std.specs.Prelude.{pos, zero, unwrap_or, slice_get}
 use Rattle.std.proofs.lemmas.Option.{none-some, slice_get_within}
+use Rattle.ob_trap.specs.declared.trap.Trap.TheVariants as trap
+use Rattle.ob_trap.specs.Numbers.{trap_number}
 use Rattle.ob_tree.specs.declared.pos.Pos.{Pos}
 use Rattle.ob_tree.specs.declared.names.QName.{QName}
 use Rattle.ob_types.specs.declared.types.TypeRef.{TypeRef}
@@ -67,7 +69,7 @@ hidden_at sc (p ∷ ps) t h = (h.0, hidden_at sc ps (suc t) h.1)
 
 last_stands : (sc : Scope) (p : Procedure) (r : Option TypeRef) (pc at : ℕ) → LineStands sc (closing r p.at) pc at → LastCode sc p pc r
 last_stands sc p None pc at h = has_line sc op.Ret (pos 0) (pos 0) None pc at h
-last_stands sc p (Some t) pc at h = has_at sc op.Trap (pos 6) (pos 0) p.at pc at h
+last_stands sc p (Some t) pc at h = has_at sc op.Trap (pos (trap_number trap.NoReturn)) (pos 0) p.at pc at h
 
 module _ (types : QName → Option Desc) (md : Module) where
   kind_is : (program : Program) (at : Procedure) (how : Passing) (t : TypeRef) → IsDescribed types program → ParameterFits program how (form_in program t) → KindIs program how (form_in program t) (param_for types md (within types md at) how t)

@@ -1,6 +1,9 @@
 -- The code of statements stands as the law of simulation asks.
 use Rattle.std.proofs.Common.{◌≡◌, ℕ, suc, ◌+◌, ◌<◌, List, [], ◌∷◌, ◌++◌, length, ℤ, refl, sym, ap, ◌∙◌, subst, arith, Option, Some, None}
 use Rattle.std.specs.Prelude.{pos}
+use Rattle.ob_trap.specs.declared.trap.Trap.{Trap}
+use Rattle.ob_trap.specs.declared.trap.Trap.TheVariants as trap
+use Rattle.ob_trap.specs.Numbers.{trap_number}
 use Rattle.ob_tree.specs.declared.pos.Pos.{Pos}
 use Rattle.ob_types.specs.declared.types.TypeRef.TheVariants as ref
 use Rattle.ob_types.specs.declared.types.Basic.TheVariants as basic
@@ -49,7 +52,7 @@ module _ (sc : Scope) (c : Context) (ag : Agrees sc c) where
   abbrev pub CS : ℕ → Cases → (pc t x end : ℕ) → List Line
   CS k cs pc t x end = scheme_of.cases_code c k cs pc t x end
 
-  abbrev pub EL : ℕ → Pos → Otherwise → (pc t x : ℕ) → List Line
+  abbrev pub EL : Trap → Pos → Otherwise → (pc t x : ℕ) → List Line
   EL kind p o pc t x = scheme_of.else_code c kind p o pc t x
 
   abbrev ee : Expr → ℕ → ℕ
@@ -135,7 +138,7 @@ module _ (sc : Scope) (c : Context) (ag : Agrees sc c) where
     stmt_stands (Assert e number p) pc t x at rest f hd h =
         let r = value_stands e pc at (placed op.Assert (Number number) p ∷ rest) f (apart sc (E sc c ag want.Value e pc) _ rest pc at h) in
         ((r.0, has_at sc op.Assert number (pos 0) p (ee e pc) _ r.1.lines.0), next sc r.1)
-    stmt_stands (Halt number p) pc t x at rest f hd h = (has_at sc op.Trap (pos 11) number p pc at h.lines.0, no_texts sc (next sc h))
+    stmt_stands (Halt number p) pc t x at rest f hd h = (has_at sc op.Trap (pos (trap_number trap.Halted)) number p pc at h.lines.0, no_texts sc (next sc h))
     stmt_stands (If branches otherwise) pc t x at rest f hd h =
         let q1 = scheme_of.end_branches c branches pc in
         let p1 = end_branches sc.program branches pc in
@@ -159,15 +162,15 @@ module _ (sc : Scope) (c : Context) (ag : Agrees sc c) where
         let e3 = ap (scheme_of.end_else c otherwise) e2 ∙ else_ends c sc.program ag.described otherwise p2 f.1.1 in
         let hid = hidden_apart sc (hidden_of_cases cases) (hidden_of_else otherwise) (suc t) hd.1 in
         let a = CS t cases q1 (suc t) x (scheme_of.end_else c otherwise q2) in
-        let b = EL 4 p otherwise q2 n x in
+        let b = EL trap.NoCase p otherwise q2 n x in
         let r = value_stands e (suc pc) at (bare op.Store ∷ ((a ++ b) ++ rest)) f.0 (apart sc (E sc c ag want.Value e (suc pc)) (bare op.Store ∷ (a ++ b)) rest (suc pc) at (next sc h)) in
         let k1 = apart sc a b rest (suc p1) (at + et sc e) (next sc r.1) in
         let k2 = subst (λ m. Behind sc (CS t cases q1 (suc t) x m ++ (b ++ rest)) (suc p1) (at + et sc e)) e3 k1 in
         let k3 = subst (λ m. Behind sc (CS t cases m (suc t) x p3 ++ (b ++ rest)) (suc p1) (at + et sc e)) e1 k2 in
         let s = cases_stand t p cases (suc p1) (suc t) x p3 (at + et sc e) (b ++ rest) f.1.0 hd.0 hid.0 k3 in
-        let k4 = subst (λ m. Behind sc (EL 4 p otherwise q2 m x ++ rest) p2 (at + et sc e + texts_of_cases (form_in sc.program) cases)) (cases_next c cases (suc t)) s.1 in
-        let k5 = subst (λ m. Behind sc (EL 4 p otherwise m (suc t + length (hidden_of_cases cases)) x ++ rest) p2 (at + et sc e + texts_of_cases (form_in sc.program) cases)) e2 k4 in
-        let l = else_stands 4 p otherwise p2 _ x _ rest f.1.1 hid.1 k5 in
+        let k4 = subst (λ m. Behind sc (EL trap.NoCase p otherwise q2 m x ++ rest) p2 (at + et sc e + texts_of_cases (form_in sc.program) cases)) (cases_next c cases (suc t)) s.1 in
+        let k5 = subst (λ m. Behind sc (EL trap.NoCase p otherwise m (suc t + length (hidden_of_cases cases)) x ++ rest) p2 (at + et sc e + texts_of_cases (form_in sc.program) cases)) e2 k4 in
+        let l = else_stands trap.NoCase p otherwise p2 _ x _ rest f.1.1 hid.1 k5 in
         let sum : at + et sc e + texts_of_cases (form_in sc.program) cases + texts_of_else (form_in sc.program) otherwise ≡ at + (et sc e + texts_of_cases (form_in sc.program) cases + texts_of_else (form_in sc.program) otherwise) = omega arith in
         ((local_at t p pc at hd.0 h.lines.0, (r.0, (has_line sc op.Store (pos 0) (pos 0) None p1 _ r.1.lines.0, (s.0 (inside sc rest p3 _ l.1), l.0)))), moved sc _ _ refl sum l.1)
     stmt_stands (While e body p) pc t x at rest f hd h =
@@ -265,11 +268,11 @@ module _ (sc : Scope) (c : Context) (ag : Agrees sc c) where
         let eb = branches_end c sc.program ag.described branches pc f.0 in
         let e2 = ap (scheme_of.end_else c otherwise) eb ∙ else_ends c sc.program ag.described otherwise p1 f.1 in
         let hid = hidden_apart sc (hidden_of_branches branches) (hidden_of_else otherwise) t hd in
-        let k = subst (λ m. Behind sc (BS branches pc t x m ++ (EL 5 p otherwise q1 n x ++ rest)) pc at) e2 (apart sc (BS branches pc t x (scheme_of.end_else c otherwise q1)) (EL 5 p otherwise q1 n x) rest pc at h) in
-        let r = branches_stand branches pc t x (end_else sc.program otherwise p1) at (EL 5 p otherwise q1 n x ++ rest) f.0 hid.0 k in
-        let k4 = subst (λ m. Behind sc (EL 5 p otherwise q1 m x ++ rest) p1 (at + texts_of_branches (form_in sc.program) branches)) (branches_next c branches t) r.1 in
-        let k5 = subst (λ m. Behind sc (EL 5 p otherwise m (t + length (hidden_of_branches branches)) x ++ rest) p1 (at + texts_of_branches (form_in sc.program) branches)) eb k4 in
-        let l = else_stands 5 p otherwise p1 _ x _ rest f.1 hid.1 k5 in
+        let k = subst (λ m. Behind sc (BS branches pc t x m ++ (EL trap.NoMatch p otherwise q1 n x ++ rest)) pc at) e2 (apart sc (BS branches pc t x (scheme_of.end_else c otherwise q1)) (EL trap.NoMatch p otherwise q1 n x) rest pc at h) in
+        let r = branches_stand branches pc t x (end_else sc.program otherwise p1) at (EL trap.NoMatch p otherwise q1 n x ++ rest) f.0 hid.0 k in
+        let k4 = subst (λ m. Behind sc (EL trap.NoMatch p otherwise q1 m x ++ rest) p1 (at + texts_of_branches (form_in sc.program) branches)) (branches_next c branches t) r.1 in
+        let k5 = subst (λ m. Behind sc (EL trap.NoMatch p otherwise m (t + length (hidden_of_branches branches)) x ++ rest) p1 (at + texts_of_branches (form_in sc.program) branches)) eb k4 in
+        let l = else_stands trap.NoMatch p otherwise p1 _ x _ rest f.1 hid.1 k5 in
         ((r.0 (inside sc rest _ _ l.1), l.0), texts_on sc at (texts_of_branches (form_in sc.program) branches) (texts_of_else (form_in sc.program) otherwise) l.1)
 
     pub stmts_stand : (s : Stmts) (pc t x at : ℕ) (rest : List Line) → StmtsFit sc.program c s → H (hidden_of_all s) t → Behind sc (SS s pc t x ++ rest) pc at → StmtsCode sc s x pc at × Behind sc rest (end_stmts sc.program s pc) (at + sst sc s)
@@ -329,6 +332,6 @@ module _ (sc : Scope) (c : Context) (ag : Agrees sc c) where
           texts_on sc at (sst sc body) (texts_of_cases (form_in sc.program) more) m.1,
         )
 
-    pub else_stands : (kind : ℕ) (p : Pos) (o : Otherwise) (pc t x at : ℕ) (rest : List Line) → ElseFits sc.program c o → H (hidden_of_else o) t → Behind sc (EL kind p o pc t x ++ rest) pc at → ElseCode sc o (HasAt sc pc (with_a op.Trap kind) p) x pc at × Behind sc rest (end_else sc.program o pc) (at + texts_of_else (form_in sc.program) o)
-    else_stands kind p NoElse pc t x at rest f hd h = (has_at sc op.Trap (pos kind) (pos 0) p pc at h.lines.0, no_texts sc (next sc h))
+    pub else_stands : (kind : Trap) (p : Pos) (o : Otherwise) (pc t x at : ℕ) (rest : List Line) → ElseFits sc.program c o → H (hidden_of_else o) t → Behind sc (EL kind p o pc t x ++ rest) pc at → ElseCode sc o (HasAt sc pc (with_a op.Trap (trap_number kind)) p) x pc at × Behind sc rest (end_else sc.program o pc) (at + texts_of_else (form_in sc.program) o)
+    else_stands kind p NoElse pc t x at rest f hd h = (has_at sc op.Trap (pos (trap_number kind)) (pos 0) p pc at h.lines.0, no_texts sc (next sc h))
     else_stands kind p (Else body) pc t x at rest f hd h = stmts_stand body pc t x at rest f hd h

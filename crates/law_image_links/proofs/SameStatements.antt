@@ -2,6 +2,8 @@
 use Rattle.std.proofs.Common.{◌≡◌, ℕ, suc, List, [], ◌∷◌, ◌++◌, refl, ap, ◌∙◌, Option, Some, None}
 use Rattle.std.specs.Prelude.{Bool, true, false}
 use Rattle.std.specs.List.{AllByRecursion}
+use Rattle.ob_trap.specs.declared.trap.Trap.{Trap}
+use Rattle.ob_trap.specs.declared.trap.Trap.TheVariants as trap
 use Rattle.ob_tree.specs.declared.pos.Pos.{Pos}
 use Rattle.ob_tree.specs.declared.names.QName.{QName}
 use Rattle.ob_types.specs.declared.types.TypeRef.TheVariants as ref
@@ -198,7 +200,7 @@ module _ (a b : QName → Option Desc) (m : Module) (ps : List TypedParameter) (
     stmt_same (Case e cases otherwise at) p q t u x y i j k s =
         let e1 = ap suc (on_expr want.Value e _ _ (ap suc i) s.0) in
         let e2 = cases_end cases _ _ e1 s.1.0 in
-        lines_two _ _ _ _ (ap (λ z. plain op.Local (count z)) j) (both _ _ _ _ (place_after want.Value e _ _ (ap suc i) s.0) (ap (λ l. bare op.Store ∷ l) (both _ _ _ _ (cases_same t u cases _ _ _ _ x y _ _ j e1 (ap suc j) k (else_end otherwise _ _ e2 s.1.1) s.1.0) (else_same 4 at otherwise _ _ _ _ x y e2 (cases_next first second cases (suc t) ∙ ap (λ z. next_cases second cases (suc z)) j) k s.1.1))))
+        lines_two _ _ _ _ (ap (λ z. plain op.Local (count z)) j) (both _ _ _ _ (place_after want.Value e _ _ (ap suc i) s.0) (ap (λ l. bare op.Store ∷ l) (both _ _ _ _ (cases_same t u cases _ _ _ _ x y _ _ j e1 (ap suc j) k (else_end otherwise _ _ e2 s.1.1) s.1.0) (else_same trap.NoCase at otherwise _ _ _ _ x y e2 (cases_next first second cases (suc t) ∙ ap (λ z. next_cases second cases (suc z)) j) k s.1.1))))
     stmt_same (While e body at) p q t u x y i j k s =
         let e1 = ap suc (on_expr want.Value e p q i s.0) in
         let e2 = stmts_end body _ _ e1 s.1 in
@@ -221,7 +223,7 @@ module _ (a b : QName → Option Desc) (m : Module) (ps : List TypedParameter) (
     stmt_same (Return e) p q t u x y i j k s = result_same e p s ∙ ap (result_code second e) i
     stmt_same (With branches otherwise at) p q t u x y i j k s =
         let e1 = branches_end branches p q i s.0 in
-        both _ _ _ _ (branches_same branches p q t u x y _ _ i j k (else_end otherwise _ _ e1 s.1) s.0) (else_same 5 at otherwise _ _ _ _ x y e1 (branches_next first second branches t ∙ ap (next_branches second branches) j) k s.1)
+        both _ _ _ _ (branches_same branches p q t u x y _ _ i j k (else_end otherwise _ _ e1 s.1) s.0) (else_same trap.NoMatch at otherwise _ _ _ _ x y e1 (branches_next first second branches t ∙ ap (next_branches second branches) j) k s.1)
 
     pub stmts_same : (s : Stmts) (p q t u x y : ℕ) → p ≡ q → t ≡ u → x ≡ y → StmtsSame a b s → stmts_code first s p t x ≡ stmts_code second s q u y
     stmts_same Nothing p q t u x y i j k s = refl
@@ -241,6 +243,6 @@ module _ (a b : QName → Option Desc) (m : Module) (ps : List TypedParameter) (
         let e2 = ap suc (stmts_end body _ _ e1 s.0) in
         both _ _ _ _ (labels_same first second v labels p _ ∙ ap (λ z. labels_code second z labels p (suc (end_labels first labels p))) o ∙ ap (λ z. labels_code second w labels z (suc (end_labels first labels p))) i ∙ ap (labels_code second w labels q) e1) (lines_two _ _ _ _ (ap jump e2) (both _ _ _ _ (stmts_same body _ _ t u x y e1 j k s.0) (lines_two _ _ _ _ (ap jump n) (cases_same v w rest _ _ _ _ x y g h o e2 (stmts_next first second body t ∙ ap (next_stmts second body) j) k n s.1))))
 
-    else_same : (kind : ℕ) (at : Pos) (r : Otherwise) (p q t u x y : ℕ) → p ≡ q → t ≡ u → x ≡ y → ElseSame a b r → else_code first kind at r p t x ≡ else_code second kind at r q u y
+    else_same : (kind : Trap) (at : Pos) (r : Otherwise) (p q t u x y : ℕ) → p ≡ q → t ≡ u → x ≡ y → ElseSame a b r → else_code first kind at r p t x ≡ else_code second kind at r q u y
     else_same kind at NoElse p q t u x y i j k s = refl
     else_same kind at (Else body) p q t u x y i j k s = stmts_same body p q t u x y i j k s

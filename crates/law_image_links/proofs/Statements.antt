@@ -1,6 +1,8 @@
 -- The strings of the code of statements, procedures and a module are those that the meaning counts, in the same order.
 use Rattle.std.proofs.Common.{◌≡◌, ℕ, suc, List, [], ◌∷◌, ◌++◌, refl, ap, Option, Some, None}
 use Rattle.std.specs.Prelude.{ℤ, Bool, true, false}
+use Rattle.ob_trap.specs.declared.trap.Trap.{Trap}
+use Rattle.ob_trap.specs.declared.trap.Trap.TheVariants as trap
 use Rattle.ob_tree.specs.declared.pos.Pos.{Pos}
 use Rattle.ob_tree.specs.declared.names.QName.{QName}
 use Rattle.ob_types.specs.declared.types.TypeRef.{TypeRef}
@@ -124,7 +126,7 @@ module _ (c : Context) where
       stmt_words (Case e cases otherwise p) pc t x =
           let p1 = suc (end_expr c want.Value e (suc pc)) in
           let p2 = end_cases c cases p1 in
-          two (expr_code c want.Value e (suc pc)) _ (et e) (ct cases ++ lt otherwise) (expr want.Value e (suc pc) tt) (two (cases_code c t cases p1 (suc t) x (end_else c otherwise p2)) (else_code c 4 p otherwise p2 (next_cases c cases (suc t)) x) (ct cases) (lt otherwise) (cases_words t cases p1 (suc t) x (end_else c otherwise p2)) (else_words 4 p otherwise p2 (next_cases c cases (suc t)) x))
+          two (expr_code c want.Value e (suc pc)) _ (et e) (ct cases ++ lt otherwise) (expr want.Value e (suc pc) tt) (two (cases_code c t cases p1 (suc t) x (end_else c otherwise p2)) (else_code c trap.NoCase p otherwise p2 (next_cases c cases (suc t)) x) (ct cases) (lt otherwise) (cases_words t cases p1 (suc t) x (end_else c otherwise p2)) (else_words trap.NoCase p otherwise p2 (next_cases c cases (suc t)) x))
       stmt_words (While e body p) pc t x =
           let p1 = end_expr c want.Value e pc in
           two (expr_code c want.Value e pc) _ (et e) (sst body) (expr want.Value e pc tt) (then_none (stmts_code c body (suc p1) t x) _ (sst body) (stmts_words body (suc p1) t x) refl)
@@ -148,7 +150,7 @@ module _ (c : Context) where
       stmt_words (Return e) pc t x = result_words e pc
       stmt_words (With branches otherwise p) pc t x =
           let p1 = end_branches c branches pc in
-          two (branches_code c branches pc t x (end_else c otherwise p1)) (else_code c 5 p otherwise p1 (next_branches c branches t) x) (bt branches) (lt otherwise) (branches_words branches pc t x (end_else c otherwise p1)) (else_words 5 p otherwise p1 (next_branches c branches t) x)
+          two (branches_code c branches pc t x (end_else c otherwise p1)) (else_code c trap.NoMatch p otherwise p1 (next_branches c branches t) x) (bt branches) (lt otherwise) (branches_words branches pc t x (end_else c otherwise p1)) (else_words trap.NoMatch p otherwise p1 (next_branches c branches t) x)
 
       pub stmts_words : (s : Stmts) (pc t x : ℕ) → lines_words (stmts_code c s pc t x) ≡ sst s
       stmts_words Nothing pc t x = refl
@@ -168,7 +170,7 @@ module _ (c : Context) where
           let p2 = end_stmts c body (suc p1) in
           none_then (labels_code c k labels pc (suc p1)) _ (sst body ++ ct rest) (labels_none k c labels pc (suc p1)) (two (stmts_code c body (suc p1) t x) (jump end ∷ cases_code c k rest (suc p2) (next_stmts c body t) x end) (sst body) (ct rest) (stmts_words body (suc p1) t x) (cases_words k rest (suc p2) (next_stmts c body t) x end))
 
-      else_words : (kind : ℕ) (p : Pos) (b : Otherwise) (pc t x : ℕ) → lines_words (else_code c kind p b pc t x) ≡ lt b
+      else_words : (kind : Trap) (p : Pos) (b : Otherwise) (pc t x : ℕ) → lines_words (else_code c kind p b pc t x) ≡ lt b
       else_words kind p NoElse pc t x = refl
       else_words kind p (Else body) pc t x = stmts_words body pc t x
 

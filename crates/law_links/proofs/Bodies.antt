@@ -1,6 +1,7 @@
 -- The code of statements, and of a module, names what its tree names.
 use Rattle.std.proofs.Common.{◌≡◌, ℕ, suc, Bool, true, false, List, [], ◌∷◌, Option, Some, None, refl}
 use Rattle.std.specs.List.{AllByRecursion}
+use Rattle.ob_trap.specs.declared.trap.Trap.{Trap}
 use Rattle.ob_tree.specs.declared.pos.Pos.{Pos}
 use Rattle.ob_tree.specs.declared.names.QName.{QName}
 use Rattle.ob_types.specs.declared.types.TypeRef.{TypeRef}
@@ -193,7 +194,7 @@ module _ (x : Context) (Var Proc Rec : QName → Type 0) where
         all_both L (labels_code x k labels pc (suc p1)) _ (labels_ok k labels pc (suc p1))
         ((tt, tt), all_both L (stmts_code x body (suc p1) t y) _ (stmts_ok body (suc p1) t y h.0) ((tt, tt), cases_ok k rest (suc p2) (next_stmts x body t) y end h.1))
 
-    else_ok : (kind : ℕ) (at : Pos) (o : Otherwise) (pc t y : ℕ) → ElseNamed x.types x.unit.name Var Proc Rec o → Lines (else_code x kind at o pc t y)
+    else_ok : (kind : Trap) (at : Pos) (o : Otherwise) (pc t y : ℕ) → ElseNamed x.types x.unit.name Var Proc Rec o → Lines (else_code x kind at o pc t y)
     else_ok kind at NoElse pc t y h = ((tt, tt), tt)
     else_ok kind at (Else body) pc t y h = stmts_ok body pc t y h
 

@@ -30,6 +30,7 @@ use Rattle.ob_rules.specs.declared.meant.Chosen.{Chosen}
 use Rattle.ob_rules.specs.declared.meant.Meant.{Meant}
 use Rattle.ob_rules.specs.declared.meant.Meant.TheVariants as means
 use Rattle.ob_rules.specs.declared.meant.Where.{Where}
+use Rattle.ob_rules.specs.declared.broken.Rule.TheVariants as rule
 use Rattle.ob_rules.specs.Judged.{Judged, sound, both, also, wants}
 use Rattle.ob_rules.specs.Shapes.{Map, is_array, passing_of}
 use Rattle.ob_rules.specs.Names.{Around, map_of}
@@ -69,9 +70,9 @@ designator_e k p h = named_e k _ (ValueOf (designator_view p.designator.inner)) 
 
 variable_keeps : (k : Setting) (map : Map) (t : TypeRef) (start : Pos) (p : Place) → PlaceOk k p → Keeps k (ActualOk k) (variable_actual map t start p)
 variable_keeps k map t start p h =
-    also_keeps k (ActualOk k) _ 25 start (unless_read_only map t start p)
-    (also_keeps k (ActualOk k) p.read_only 26 start (unless_guarded map t start p)
-    (also_keeps k (ActualOk k) p.guarded 38 start (sound (actual_of (passing_of map mode.Var t) t (e.Designator p.designator.inner))) (λ n. actual_ok k (passing_of map mode.Var t) t (e.Designator p.designator.inner) (designator_e k p h))))
+    also_keeps k (ActualOk k) _ rule.UnfitParameter start (unless_read_only map t start p)
+    (also_keeps k (ActualOk k) p.read_only rule.NotChangeable start (unless_guarded map t start p)
+    (also_keeps k (ActualOk k) p.guarded rule.GuardedVarParameter start (sound (actual_of (passing_of map mode.Var t) t (e.Designator p.designator.inner))) (λ n. actual_ok k (passing_of map mode.Var t) t (e.Designator p.designator.inner) (designator_e k p h))))
 
 meant_keeps : (k : Setting) (map : Map) (t : TypeRef) (start : Pos) (m : Meant) → MeantOk k m → Keeps k (ActualOk k) (meant_actual map t start m)
 meant_keeps k map t start (means.Place p) h = variable_keeps k map t start p h
@@ -87,7 +88,7 @@ tree_for_ok k true x h = text_tree_ok k x h
 tree_for_ok k false x h = tree_ok k x h
 
 value_keeps : (k : Setting) (map : Map) (t : TypeRef) (start : Pos) (x : Valued) → ValuedOk k x → Keeps k (ActualOk k) (value_actual map t start x)
-value_keeps k map t start x h = wants_keeps k (ActualOk k) _ 25 start (actual_of (passing_of map mode.Value t) t (tree_for (is_array map t) x)) (actual_ok k (passing_of map mode.Value t) t (tree_for (is_array map t) x) (tree_for_ok k (is_array map t) x h))
+value_keeps k map t start x h = wants_keeps k (ActualOk k) _ rule.UnfitParameter start (actual_of (passing_of map mode.Value t) t (tree_for (is_array map t) x)) (actual_ok k (passing_of map mode.Value t) t (tree_for (is_array map t) x) (tree_for_ok k (is_array map t) x h))
 
 actual_keeps : (k : Setting) (u : Around) → Stands k u → (m : Mode) (t : TypeRef) (p : Phrase) → PhraseOk k p → Keeps k (ActualOk k) (actual u m t p)
 actual_keeps k u s mode.Var t p g = var_keeps k u s t p g p.meant g.1
@@ -108,8 +109,8 @@ actuals_keep k u s (f ∷ fs) (p ∷ ps) g =
 called_keeps : (k : Setting) (u : Around) → Stands k u → (w : Where) (at : Pos) (s : Signature) (ps : List Phrase) → ArePhrases k ps → (f : List Actual → TypedExpr) → ((xs : List Actual) → AllByRecursion (ActualOk k) xs → E k (f xs)) → Keeps k (ValuedOk k) (called u w at s ps f)
 called_keeps k u st w at s ps g f h =
     then_keeps k (AllByRecursion (ActualOk k)) (ValuedOk k) (actuals u s.params ps) (called_with w at s (length ps) f) (actuals_keep k u st s.params ps g)
-    (λ xs q. then_keeps k (AllByRecursion (ActualOk k)) (ValuedOk k) (wants _ 24 at xs) (λ ys. also (misplaced w (is_some s.result)) 27 at (sound (computed (f ys) (result_type s.result)))) (wants_keeps k (AllByRecursion (ActualOk k)) _ 24 at xs q)
-    (λ ys r. also_keeps k (ValuedOk k) (misplaced w (is_some s.result)) 27 at (sound (computed (f ys) (result_type s.result))) (λ n. h ys r)))
+    (λ xs q. then_keeps k (AllByRecursion (ActualOk k)) (ValuedOk k) (wants _ rule.WrongParameterCount at xs) (λ ys. also (misplaced w (is_some s.result)) rule.MisplacedCall at (sound (computed (f ys) (result_type s.result)))) (wants_keeps k (AllByRecursion (ActualOk k)) _ rule.WrongParameterCount at xs q)
+    (λ ys r. also_keeps k (ValuedOk k) (misplaced w (is_some s.result)) rule.MisplacedCall at (sound (computed (f ys) (result_type s.result))) (λ n. h ys r)))
 
 call_e : (k : Setting) (f : Callee) (xs : List Actual) (at : Pos) (t : Option TypeRef) → CalleeNamed k.types k.unit (IsVar k) (IsProc k) Any f → AllByRecursion (ActualOk k) xs → E k (e.Call f xs at t)
 call_e k f xs at t h g = named_e k _ (Call f (actuals_view xs) at t) (view_call f xs at t) (h, actuals_named k xs g)
@@ -142,7 +143,7 @@ receiver_ok k receiver.Record c h = actual_ok k passing.VariableRecord (ref.Name
 bound_keeps : (k : Setting) (b : Bool) (u : Around) → Stands k u → (w : Where) (at : Pos) (c : Chosen) (ps : List Phrase) → ArePhrases k ps → PlaceOk k c.receiver → Keeps k (ValuedOk k) (call_bound_sound b u w at c ps)
 bound_keeps k false u st w at c ps g h = then_keeps k Anything (ValuedOk k) (actuals u [] ps) _ (any_keeps k (actuals u [] ps)) (λ xs q. λ n. tt)
 bound_keeps k true u st w at c ps g h =
-    also_keeps k (ValuedOk k) _ 26 at (called u w at c.method.signature ps (λ xs. e.Call (bound_callee c c.base) (receiver_actual c.method.receiver c ∷ xs) at c.method.signature.result))
+    also_keeps k (ValuedOk k) _ rule.NotChangeable at (called u w at c.method.signature ps (λ xs. e.Call (bound_callee c c.base) (receiver_actual c.method.receiver c ∷ xs) at c.method.signature.result))
     (called_keeps k u st w at c.method.signature ps g (λ xs. e.Call (bound_callee c c.base) (receiver_actual c.method.receiver c ∷ xs) at c.method.signature.result)
     (λ xs r. call_e k (bound_callee c c.base) (receiver_actual c.method.receiver c ∷ xs) at c.method.signature.result (callee_named k c c.base) (receiver_ok k c.method.receiver c h, r)))
 

@@ -29,6 +29,7 @@ use Rattle.ob_rules.specs.declared.meant.Meant.{Meant}
 use Rattle.ob_rules.specs.declared.meant.Meant.TheVariants as means
 use Rattle.ob_rules.specs.declared.meant.Where.{Where}
 use Rattle.ob_rules.specs.declared.meant.Where.TheVariants.{InExpression}
+use Rattle.ob_rules.specs.declared.broken.Rule.TheVariants as rule
 use Rattle.ob_rules.specs.Judged.{Judged, also, breaks, both, each_sound, ◌▷◌}
 use Rattle.ob_rules.specs.Shapes.{Map, pointed_record}
 use Rattle.ob_rules.specs.Names.{Around, map_of, type_named}
@@ -90,10 +91,10 @@ test_of_ok k map x t (Some a) h = pointer_test_ok k x (if_extends map guarded.Po
 test_of_ok k map x t None h = test_record_ok k map x t h
 
 test_keeps : (k : Setting) (map : Map) (at : Pos) (x : Valued) (t : TypeRef) → ValuedOk k x → Keeps k (ValuedOk k) (test map at x t)
-test_keeps k map at x t h = found_keeps k (ValuedOk k) 23 at (test_of map x t (record_if map (type_in (type x)))) (test_of_ok k map x t (record_if map (type_in (type x))) h)
+test_keeps k map at x t h = found_keeps k (ValuedOk k) rule.UnfitTypeTest at (test_of map x t (record_if map (type_in (type x)))) (test_of_ok k map x t (record_if map (type_in (type x))) h)
 
 untestable_keeps : (k : Setting) (map : Map) (at : Pos) (j : Judged Valued) → Keeps k (ValuedOk k) j → Keeps k (ValuedOk k) (untestable map at j)
-untestable_keeps k map at j h = then_keeps k (ValuedOk k) (ValuedOk k) j _ h (λ v q. wants_keeps k (ValuedOk k) (testable map v) 23 at v q)
+untestable_keeps k map at j h = then_keeps k (ValuedOk k) (ValuedOk k) j _ h (λ v q. wants_keeps k (ValuedOk k) (testable map v) rule.UnfitTypeTest at v q)
 
 is_test_keeps : (k : Setting) (u : Around) (at : Pos) (j : Judged Valued) (r : Phrase) (o : Option Qualident) → Keeps k (ValuedOk k) j → Keeps k (ValuedOk k) (is_test u at j r o)
 is_test_keeps k u at j r (Some q) h =
@@ -101,8 +102,8 @@ is_test_keeps k u at j r (Some q) h =
     (both_keep k (ValuedOk k) Anything (untestable (map_of u) at j) (type_named u q) (untestable_keeps k (map_of u) at j h) (any_keeps k (type_named u q))) (λ p g. test_keeps k (map_of u) at p.0 p.1 g.0)
 is_test_keeps k u at j r None h = then_keeps k Anything (ValuedOk k) (both j (r.value u)) _ (any_keeps k (both j (r.value u))) (λ p g. also_none p)
   where
-    also_none : (p : Valued × Valued) → Keeps k (ValuedOk k) (also (not (testable (map_of u) p.0)) 23 at (breaks 21 at))
-    also_none p = also_keeps k (ValuedOk k) (not (testable (map_of u) p.0)) 23 at (breaks 21 at) (λ n. tt)
+    also_none : (p : Valued × Valued) → Keeps k (ValuedOk k) (also (not (testable (map_of u) p.0)) rule.UnfitTypeTest at (breaks rule.UnfitOperands at))
+    also_none p = also_keeps k (ValuedOk k) (not (testable (map_of u) p.0)) rule.UnfitTypeTest at (breaks rule.UnfitOperands at) (λ n. tt)
 
 -- ---- chains, relations and sets
 
@@ -197,8 +198,8 @@ module _ (k : Setting) where
 
   expr_cases : (y : Expr-F SE SS SD SL ST) → PE (roll-Expr (map-Expr SE SS SD SL ST Expr Selector Designator Element Tail (λ x. x.0) (λ x. x.0) (λ x. x.0) (λ x. x.0) (λ x. x.0) y))
   expr_cases (Expr-F.Designator n) = by_layer (Expr-F.Designator n.0) (designator_ok k (named_of n.0) n.1)
-  expr_cases (Expr-F.Int at text) = by_layer (Expr-F.Int at text) (λ u s. wants_keeps k (ValuedOk k) _ 9 at _ tt, tt)
-  expr_cases (Expr-F.Char at text) = by_layer (Expr-F.Char at text) (λ u s. wants_keeps k (ValuedOk k) _ 9 at _ tt, tt)
+  expr_cases (Expr-F.Int at text) = by_layer (Expr-F.Int at text) (λ u s. wants_keeps k (ValuedOk k) _ rule.LiteralTooLarge at _ tt, tt)
+  expr_cases (Expr-F.Char at text) = by_layer (Expr-F.Char at text) (λ u s. wants_keeps k (ValuedOk k) _ rule.LiteralTooLarge at _ tt, tt)
   expr_cases (Expr-F.Str at text) = by_layer (Expr-F.Str at text) (λ u s. λ n. tt, tt)
   expr_cases (Expr-F.Nil at) = by_layer (Expr-F.Nil at) (λ u s. λ n. tt, tt)
   expr_cases (Expr-F.Set at xs) =

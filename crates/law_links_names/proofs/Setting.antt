@@ -26,6 +26,7 @@ use Rattle.ob_rules.specs.declared.values.Valued.{Valued}
 use Rattle.ob_rules.specs.declared.values.Valued.TheVariants as valued
 use Rattle.ob_rules.specs.declared.meant.Meant.{Meant}
 use Rattle.ob_rules.specs.declared.meant.Meant.TheVariants as means
+use Rattle.ob_rules.specs.declared.broken.Rule.{Rule}
 use Rattle.ob_rules.specs.Judged.{Judged, Notes, sound, if_sound, paired, both, made, each_sound, unless, wants, also, found_or, judge_later, noted, ◌▷◌}
 use Rattle.ob_rules.specs.Names.{Around}
 use Rattle.ob_rules.specs.Values.{tree}
@@ -143,19 +144,19 @@ pub each_keep : (k : Setting) {A : Type 0} (Q : A → Type 0) (js : List (Judged
 each_keep k Q [] h = λ n. tt
 each_keep k Q (j ∷ js) h = made_keeps k (λ p. Q p.0 × AllByRecursion Q p.1) (AllByRecursion Q) (λ p. p.0 ∷ p.1) (both j (each_sound js)) (both_keep k Q (AllByRecursion Q) j (each_sound js) h.0 (each_keep k Q js h.1)) (λ p q. q)
 
-pub unless_keeps : (k : Setting) {A : Type 0} (Q : A → Type 0) (b : Bool) (rule : ℕ) (at : Pos) (x : A) → Q x → Keeps k Q (unless b rule at x)
+pub unless_keeps : (k : Setting) {A : Type 0} (Q : A → Type 0) (b : Bool) (rule : Rule) (at : Pos) (x : A) → Q x → Keeps k Q (unless b rule at x)
 unless_keeps k Q true rule at x h = λ n. tt
 unless_keeps k Q false rule at x h = λ n. h
 
-pub wants_keeps : (k : Setting) {A : Type 0} (Q : A → Type 0) (b : Bool) (rule : ℕ) (at : Pos) (x : A) → Q x → Keeps k Q (wants b rule at x)
+pub wants_keeps : (k : Setting) {A : Type 0} (Q : A → Type 0) (b : Bool) (rule : Rule) (at : Pos) (x : A) → Q x → Keeps k Q (wants b rule at x)
 wants_keeps k Q true rule at x h = λ n. h
 wants_keeps k Q false rule at x h = λ n. tt
 
-pub found_keeps : (k : Setting) {A : Type 0} (Q : A → Type 0) (rule : ℕ) (at : Pos) (o : Option A) → IfThere Q o → Keeps k Q (found_or rule at o)
+pub found_keeps : (k : Setting) {A : Type 0} (Q : A → Type 0) (rule : Rule) (at : Pos) (o : Option A) → IfThere Q o → Keeps k Q (found_or rule at o)
 found_keeps k Q rule at None h = λ n. tt
 found_keeps k Q rule at (Some x) h = λ n. h
 
-pub also_keeps : (k : Setting) {A : Type 0} (Q : A → Type 0) (b : Bool) (rule : ℕ) (at : Pos) (j : Judged A) → Keeps k Q j → Keeps k Q (also b rule at j)
+pub also_keeps : (k : Setting) {A : Type 0} (Q : A → Type 0) (b : Bool) (rule : Rule) (at : Pos) (j : Judged A) → Keeps k Q j → Keeps k Q (also b rule at j)
 also_keeps k Q true rule at j h = λ n. tt
 also_keeps k Q false rule at j h = h
 

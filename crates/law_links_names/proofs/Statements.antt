@@ -33,6 +33,7 @@ use Rattle.ob_rules.specs.declared.meant.Meant.{Meant}
 use Rattle.ob_rules.specs.declared.meant.Meant.TheVariants as means
 use Rattle.ob_rules.specs.declared.meant.Selects.{Selects}
 use Rattle.ob_rules.specs.declared.meant.Where.TheVariants.{InExpression, AsStatement, Elsewhere}
+use Rattle.ob_rules.specs.declared.broken.Rule.TheVariants as rule
 use Rattle.ob_rules.specs.Judged.{Judged, sound, both, made, ◌▷◌}
 use Rattle.ob_rules.specs.Shapes.{Map, signature_at, is_array}
 use Rattle.ob_rules.specs.Names.{Around, map_of, named, find_name, type_named}
@@ -78,7 +79,7 @@ turn_if_keeps k u s (Some fs) g = made_keeps k (AreOk k) (IfThere (AreOk k)) (λ
 -- ---- assignments and calls
 
 target_keeps : (k : Setting) (at : Pos) (m : Meant) → MeantOk k m → Keeps k (PlaceOk k) (target at m)
-target_keeps k at (means.Place p) h = unless_keeps k (PlaceOk k) p.read_only 26 at p h
+target_keeps k at (means.Place p) h = unless_keeps k (PlaceOk k) p.read_only rule.NotChangeable at p h
 target_keeps k at m h = λ n. tt
 
 assigned_any : (k : Setting) (how : Assigned) (d : Desig) → AssignedNamed k.types k.unit (IsVar k) (IsProc k) Any how d
@@ -95,7 +96,7 @@ assigns_keep : (k : Setting) (map : Map) (at : Pos) (p : Place) (x : Valued) →
 assigns_keep k map at p x h g =
     let how = assignment_of map p x in
     let t = assigned_tree (is_array map p.of) x in
-    wants_keeps k (AreOk k) (fits map p.of x) 31 at (stmt.Assign p.designator.inner how t at ∷ [])
+    wants_keeps k (AreOk k) (fits map p.of x) rule.NotAssignable at (stmt.Assign p.designator.inner how t at ∷ [])
     (named_s k _ (Assign (designator_view p.designator.inner) how (expr_view t) at) (view_assign p.designator.inner how t at) (h.0, assigned_tree_ok k (is_array map p.of) x g, assigned_any k how (designator_view p.designator.inner)), tt)
 
 pub assignment_keeps : (k : Setting) (u : Around) → Stands k u → (n : Named) (at : Pos) (x : Phrase) → NamedOk k n → PhraseOk k x → Keeps k (AreOk k) (assignment u n at x)
@@ -130,7 +131,7 @@ call_keeps k n g u s = then_keeps k (MeantOk k) (AreOk k) (meant_by AsStatement 
 -- ---- conditions and branches
 
 condition_keeps : (k : Setting) (u : Around) → Stands k u → (x : Phrase) → PhraseOk k x → Keeps k (E k) (condition u x)
-condition_keeps k u s x g = then_keeps k (ValuedOk k) (E k) (x.value u) _ (g.0 u s) (λ v h. wants_keeps k (E k) _ 32 x.start (tree v) (tree_ok k v h))
+condition_keeps k u s x g = then_keeps k (ValuedOk k) (E k) (x.value u) _ (g.0 u s) (λ v h. wants_keeps k (E k) _ rule.NotBoolean x.start (tree v) (tree_ok k v h))
 
 abbrev BranchOk : Setting → TypedBranch → Type 0
 BranchOk k b = ExprNamed k.types k.unit (IsVar k) (IsProc k) Any (branch_view b).test × StmtsNamed k.types k.unit (IsVar k) (IsProc k) Any (branch_view b).body
@@ -209,20 +210,20 @@ case_keeps k u s at x cs o g h i =
     let c = cases u (selects_if (map_of u) j.node) [] cs in
     then_keeps k (λ (p : Valued × (List TypedCase × Option (List TypedStmt))). ValuedOk k p.0 × (AllByRecursion (CaseOk k) p.1.0 × IfThere (AreOk k) p.1.1)) (AreOk k) (both j (both c (in_turn_if o u))) _
     (both_keep k (ValuedOk k) (λ (p : List TypedCase × Option (List TypedStmt)). AllByRecursion (CaseOk k) p.0 × IfThere (AreOk k) p.1) j (both c (in_turn_if o u))
-    (then_keeps k (ValuedOk k) (ValuedOk k) (x.value u) (case_value (map_of u) x.start) (g.0 u s) (λ v q. wants_keeps k (ValuedOk k) _ 33 x.start v q))
+    (then_keeps k (ValuedOk k) (ValuedOk k) (x.value u) (case_value (map_of u) x.start) (g.0 u s) (λ v q. wants_keeps k (ValuedOk k) _ rule.UnfitCase x.start v q))
     (both_keep k (AllByRecursion (CaseOk k)) (IfThere (AreOk k)) c (in_turn_if o u) (cases_keep k u s (selects_if (map_of u) j.node) [] cs h) (turn_if_keeps k u s o i)))
     (λ p q. λ n. (case_s k (tree p.0) p.1.0 p.1.1 at (tree_ok k p.0 q.0) q.1.0 q.1.1, tt))
 
 -- ---- FOR
 
 for_variable_keeps : (k : Setting) (u : Around) → Stands k u → (at : Pos) (x : Ident) (e : Entity) → EntityOk k e → Keeps k (PlaceOk k) (for_variable u at x e)
-for_variable_keeps k u s at x (entity.Variable v t) h = then_keeps k (PlaceOk k) (PlaceOk k) (variable_named u x.pos v t false) (λ p. integer_place (map_of u) at p) (variable_keeps k u x.pos v t false h) (λ p q. wants_keeps k (PlaceOk k) _ 34 at p q)
+for_variable_keeps k u s at x (entity.Variable v t) h = then_keeps k (PlaceOk k) (PlaceOk k) (variable_named u x.pos v t false) (λ p. integer_place (map_of u) at p) (variable_keeps k u x.pos v t false h) (λ p q. wants_keeps k (PlaceOk k) _ rule.UnfitFor at p q)
 for_variable_keeps k u s at x (entity.TypeName t) h = λ n. tt
 for_variable_keeps k u s at x (entity.Module m) h = λ n. tt
 for_variable_keeps k u s at x e h = λ n. tt
 
 bound_keeps : (k : Setting) (map : Map) (at : Pos) (p : Place) (j : Judged Valued) → Keeps k (ValuedOk k) j → Keeps k (E k) (bound_if map at (Some p) j)
-bound_keeps k map at p j h = then_keeps k (ValuedOk k) (E k) j (for_bound map at p) h (λ x q. wants_keeps k (E k) (fits map p.of x) 34 at (tree x) (tree_ok k x q))
+bound_keeps k map at p j h = then_keeps k (ValuedOk k) (E k) j (for_bound map at p) h (λ x q. wants_keeps k (E k) (fits map p.of x) rule.UnfitFor at (tree x) (tree_ok k x q))
 
 for_with_keeps : (k : Setting) (map : Map) (at : Pos) (o : Option Place) (a b : Judged Valued) (step : Judged ℤ) (body : Judged (List TypedStmt)) → IfThere (PlaceOk k) o → Keeps k (ValuedOk k) a → Keeps k (ValuedOk k) b → Keeps k (AreOk k) body → Keeps k (AreOk k) (for_with map at o a b step body)
 for_with_keeps k map at None a b step body h x y z = λ n. tt
@@ -242,11 +243,11 @@ for_keeps k u s at x a b step body g h i = λ n.
 -- ---- EXIT and RETURN
 
 pub exit_keeps : (k : Setting) (u : Around) (at : Pos) → Keeps k (AreOk k) (rules.exit u at)
-exit_keeps k u at = wants_keeps k (AreOk k) u.in_loop 35 at (stmt.Exit ∷ []) (named_s k stmt.Exit Exit view_exit tt, tt)
+exit_keeps k u at = wants_keeps k (AreOk k) u.in_loop rule.MisplacedExit at (stmt.Exit ∷ []) (named_s k stmt.Exit Exit view_exit tt, tt)
 
 returned_keeps : (k : Setting) (map : Map) (at : Pos) (o : Option TypeRef) (x : Valued) → ValuedOk k x → Keeps k (AreOk k) (returned map at o x)
 returned_keeps k map at None x h = λ n. tt
-returned_keeps k map at (Some t) x h = wants_keeps k (AreOk k) (fits map t x) 36 at (stmt.Return (Some (tree x)) ∷ []) (named_s k _ (Return (Some (expr_view (tree x)))) (view_return (Some (tree x))) (tree_ok k x h), tt)
+returned_keeps k map at (Some t) x h = wants_keeps k (AreOk k) (fits map t x) rule.UnfitReturn at (stmt.Return (Some (tree x)) ∷ []) (named_s k _ (Return (Some (expr_view (tree x)))) (view_return (Some (tree x))) (tree_ok k x h), tt)
 
 none_keeps : (k : Setting) (at : Pos) (o : Option TypeRef) → Keeps k (AreOk k) (return_none at o)
 none_keeps k at None = λ n. (named_s k _ (Return None) (view_return None) tt, tt)
@@ -278,7 +279,7 @@ with_meant_keeps k u s None x = designates_keeps k u s InExpression x [] tt
 with_meant_keeps k u s (Some m) x = qualified_keeps k u s m x (find_name u.known m.name)
 
 with_place_keeps : (k : Setting) (map : Map) (at : Pos) (m : Meant) → MeantOk k m → Keeps k (PlaceOk k) (with_place map at m)
-with_place_keeps k map at (means.Place p) h = wants_keeps k (PlaceOk k) _ 37 at p h
+with_place_keeps k map at (means.Place p) h = wants_keeps k (PlaceOk k) _ rule.UnfitWith at p h
 with_place_keeps k map at m h = λ n. tt
 
 guard_test_ok : (k : Setting) (p : Place) (g : Guarded) (q : QName) → PlaceOk k p → E k (guard_test p g q)

@@ -32,6 +32,7 @@ use Rattle.ob_rules.specs.declared.meant.Chosen.{Chosen}
 use Rattle.ob_rules.specs.declared.meant.Meant.{Meant}
 use Rattle.ob_rules.specs.declared.meant.Meant.TheVariants as means
 use Rattle.ob_rules.specs.declared.meant.Where.{Where}
+use Rattle.ob_rules.specs.declared.broken.Rule.TheVariants as rule
 use Rattle.ob_rules.specs.Judged.{Judged, sound, found_or, made}
 use Rattle.ob_rules.specs.Shapes.{Map, Member, AField, AMethod, member, pointed, pointed_record, record_of, array_of, is_array, is_held, signature_at, base_record}
 use Rattle.ob_rules.specs.Names.{Around, map_of, named, exported, is_out, out_procedure, type_named}
@@ -116,7 +117,7 @@ pub variable_keeps : (k : Setting) (u : Around) → Stands k u → (at : Pos) (v
 variable_keeps k u s at v t b = guards_keep k u s at v u.guards (sound (variable_at v t b)) (variable_ok k v t b)
 
 guard_keeps : (k : Setting) (u : Around) → Stands k u → (at : Pos) (p : Place) (t : TypeRef) → PlaceOk k p → Keeps k (MeantOk k) (guard (map_of u) at p t)
-guard_keeps k u s at p t h = then_keeps k (GuardOk k p.of) (MeantOk k) (found_or 23 at (guard_of (map_of u) p t)) _ (found_keeps k (GuardOk k p.of) 23 at (guard_of (map_of u) p t) (guard_ok k u s p t)) (λ g q. guarded_ok k p g t at true h q)
+guard_keeps k u s at p t h = then_keeps k (GuardOk k p.of) (MeantOk k) (found_or rule.UnfitTypeTest at (guard_of (map_of u) p t)) _ (found_keeps k (GuardOk k p.of) rule.UnfitTypeTest at (guard_of (map_of u) p t) (guard_ok k u s p t)) (λ g q. guarded_ok k p g t at true h q)
 
 -- ---- dereferences, indices and fields
 
@@ -152,7 +153,7 @@ indexed_ok k p at i a h g = typed_d k _ (AnIndex (designator_view p.designator.i
 
 into_keeps : (k : Setting) (map : Map) (at : Pos) (p : Place) (i : Judged Valued) (o : Option (Option ℕ × TypeRef)) → PlaceOk k p → Keeps k (ValuedOk k) i → Keeps k (PlaceOk k) (index_into map at p i o)
 into_keeps k map at p i None h g = tt
-into_keeps k map at p i (Some a) h g = then_keeps k (ValuedOk k) (PlaceOk k) i _ g (λ x q. wants_keeps k (PlaceOk k) (is_integer map x) 22 at (indexed p at x a) (indexed_ok k p at x a h q))
+into_keeps k map at p i (Some a) h g = then_keeps k (ValuedOk k) (PlaceOk k) i _ g (λ x q. wants_keeps k (PlaceOk k) (is_integer map x) rule.UnfitSelector at (indexed p at x a) (indexed_ok k p at x a h q))
 
 index_if_keeps : (k : Setting) (o : Option Place) (i : Judged Valued) (f : Place → Judged Place) → IfThere (PlaceOk k) o → ((p : Place) → PlaceOk k p → Keeps k (PlaceOk k) (f p)) → Keeps k (PlaceOk k) (index_if o i f)
 index_if_keeps k None i f h g = tt

@@ -15,6 +15,7 @@ use Rattle.ob_types.specs.declared.desc.Desc.TheVariants as desc
 use Rattle.ob_types.specs.declared.desc.Method.{Method}
 use Rattle.ob_types.specs.declared.typed.TypedType.{TypedType}
 use Rattle.ob_rules.specs.declared.entity.Received.{Received}
+use Rattle.ob_rules.specs.declared.broken.Rule.TheVariants as rule
 use Rattle.ob_rules.specs.Judged.{broken_at, both}
 use Rattle.ob_rules.specs.Shapes.{Map, Member, AField, AMethod, member, pointed}
 use Rattle.ob_rules.specs.Names.{Around, map_of, type_named}
@@ -129,9 +130,9 @@ behind_stands k u s false h = by h.is_bound
 
 -- one that is declared twice is not settled
 its_types : (k : Setting) (t : Bool) (h : Head) (u : Around) → IsSettled k (declared_head t h u) → Have k (types_of h.parameters)
-its_types k true h u s = absurd (no (back_empty h.notes.broken (broken_at 1 h.at).broken s.0))
+its_types k true h u s = absurd (no (back_empty h.notes.broken (broken_at rule.DeclaredTwice h.at).broken s.0))
   where
-    no : (broken_at 1 h.at).broken ≡ [] → ⊥
+    no : (broken_at rule.DeclaredTwice h.at).broken ≡ [] → ⊥
     no e = absurd cc
 its_types k false h u s = s.1
 

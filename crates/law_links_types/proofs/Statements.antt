@@ -32,6 +32,7 @@ use Rattle.ob_rules.specs.declared.meant.Meant.{Meant}
 use Rattle.ob_rules.specs.declared.meant.Meant.TheVariants as means
 use Rattle.ob_rules.specs.declared.meant.Selects.{Selects}
 use Rattle.ob_rules.specs.declared.meant.Where.TheVariants.{InExpression, AsStatement, Elsewhere}
+use Rattle.ob_rules.specs.declared.broken.Rule.TheVariants as rule
 use Rattle.ob_rules.specs.Judged.{Judged, sound, both, made, ◌▷◌}
 use Rattle.ob_rules.specs.Shapes.{Map, signature_at, record_of, is_array}
 use Rattle.ob_rules.specs.Names.{Around, map_of, named, find_name, type_named}
@@ -77,7 +78,7 @@ turn_if_keeps k u s (Some fs) g = made_keeps k (AreOk k) (IfThere (AreOk k)) (λ
 -- ---- assignments and calls
 
 target_keeps : (k : Setting) (at : Pos) (m : Meant) → MeantOk k m → Keeps k (PlaceOk k) (target at m)
-target_keeps k at (means.Place p) h = unless_keeps k (PlaceOk k) p.read_only 26 at p h
+target_keeps k at (means.Place p) h = unless_keeps k (PlaceOk k) p.read_only rule.NotChangeable at p h
 target_keeps k at m h = tt
 
 assigned_ok : (k : Setting) (b : Bool) (o : Option QName) (c : Bool) (d : Desig) → IfThere (StandsFor k.types k.unit (variable_type d)) o → AssignedRecorded k.types k.unit (assigned_as b o c) d
@@ -102,7 +103,7 @@ assigns_keep k u s at p x h g =
     let d = designator_view p.designator.inner in
     let o = record_of map p.of in
     let is : IfThere (StandsFor k.types k.unit (variable_type d)) o = subst (λ v. IfThere (StandsFor k.types k.unit v) o) (sym h.1) (stands_if k u s p.of o refl) in
-    wants_keeps k (AreOk k) (fits map p.of x) 31 at (stmt.Assign p.designator.inner how t at ∷ [])
+    wants_keeps k (AreOk k) (fits map p.of x) rule.NotAssignable at (stmt.Assign p.designator.inner how t at ∷ [])
     (named_s k _ (Assign d how (expr_view t) at) (view_assign p.designator.inner how t at) (h.0, assigned_tree_ok k (is_array map p.of) x g, assigned_ok k (is_array map p.of && is_some (text_of x)) o (is_array map p.of) d is), tt)
 
 pub assignment_keeps : (k : Setting) (u : Around) → Stands k u → (n : Named) (at : Pos) (x : Phrase) → NamedOk k n → PhraseOk k x → Keeps k (AreOk k) (assignment u n at x)
@@ -137,7 +138,7 @@ call_keeps k n g u s = then_keeps k (MeantOk k) (AreOk k) (meant_by AsStatement 
 -- ---- conditions and branches
 
 condition_keeps : (k : Setting) (u : Around) → Stands k u → (x : Phrase) → PhraseOk k x → Keeps k (E k) (condition u x)
-condition_keeps k u s x g = then_keeps k (ValuedOk k) (E k) (x.value u) _ (g.0 u s) (λ v h. wants_keeps k (E k) _ 32 x.start (tree v) (tree_ok k v h))
+condition_keeps k u s x g = then_keeps k (ValuedOk k) (E k) (x.value u) _ (g.0 u s) (λ v h. wants_keeps k (E k) _ rule.NotBoolean x.start (tree v) (tree_ok k v h))
 
 abbrev BranchOk : Setting → TypedBranch → Type 0
 BranchOk k b = ExprRecorded k.types k.unit (branch_view b).test × StmtsRecorded k.types k.unit (branch_view b).body
@@ -216,20 +217,20 @@ case_keeps k u s at x cs o g h i =
     let c = cases u (selects_if (map_of u) j.node) [] cs in
     then_keeps k (λ (p : Valued × (List TypedCase × Option (List TypedStmt))). ValuedOk k p.0 × (AllByRecursion (CaseOk k) p.1.0 × IfThere (AreOk k) p.1.1)) (AreOk k) (both j (both c (in_turn_if o u))) _
     (both_keep k (ValuedOk k) (λ (p : List TypedCase × Option (List TypedStmt)). AllByRecursion (CaseOk k) p.0 × IfThere (AreOk k) p.1) j (both c (in_turn_if o u))
-    (then_keeps k (ValuedOk k) (ValuedOk k) (x.value u) (case_value (map_of u) x.start) (g.0 u s) (λ v q. wants_keeps k (ValuedOk k) _ 33 x.start v q))
+    (then_keeps k (ValuedOk k) (ValuedOk k) (x.value u) (case_value (map_of u) x.start) (g.0 u s) (λ v q. wants_keeps k (ValuedOk k) _ rule.UnfitCase x.start v q))
     (both_keep k (AllByRecursion (CaseOk k)) (IfThere (AreOk k)) c (in_turn_if o u) (cases_keep k u s (selects_if (map_of u) j.node) [] cs h) (turn_if_keeps k u s o i)))
     (λ p q. (case_s k (tree p.0) p.1.0 p.1.1 at (tree_ok k p.0 q.0) q.1.0 q.1.1, tt))
 
 -- ---- FOR
 
 for_variable_keeps : (k : Setting) (u : Around) → Stands k u → (at : Pos) (x : Ident) (e : Entity) → Keeps k (PlaceOk k) (for_variable u at x e)
-for_variable_keeps k u s at x (entity.Variable v t) = then_keeps k (PlaceOk k) (PlaceOk k) (variable_named u x.pos v t false) (λ p. integer_place (map_of u) at p) (variable_keeps k u s x.pos v t false) (λ p q. wants_keeps k (PlaceOk k) _ 34 at p q)
+for_variable_keeps k u s at x (entity.Variable v t) = then_keeps k (PlaceOk k) (PlaceOk k) (variable_named u x.pos v t false) (λ p. integer_place (map_of u) at p) (variable_keeps k u s x.pos v t false) (λ p q. wants_keeps k (PlaceOk k) _ rule.UnfitFor at p q)
 for_variable_keeps k u s at x (entity.TypeName t) = tt
 for_variable_keeps k u s at x (entity.Module m) = tt
 for_variable_keeps k u s at x e = tt
 
 bound_keeps : (k : Setting) (map : Map) (at : Pos) (p : Place) (j : Judged Valued) → Keeps k (ValuedOk k) j → Keeps k (E k) (bound_if map at (Some p) j)
-bound_keeps k map at p j h = then_keeps k (ValuedOk k) (E k) j (for_bound map at p) h (λ x q. wants_keeps k (E k) (fits map p.of x) 34 at (tree x) (tree_ok k x q))
+bound_keeps k map at p j h = then_keeps k (ValuedOk k) (E k) j (for_bound map at p) h (λ x q. wants_keeps k (E k) (fits map p.of x) rule.UnfitFor at (tree x) (tree_ok k x q))
 
 for_with_keeps : (k : Setting) (map : Map) (at : Pos) (o : Option Place) (a b : Judged Valued) (step : Judged ℤ) (body : Judged (List TypedStmt)) → IfThere (PlaceOk k) o → Keeps k (ValuedOk k) a → Keeps k (ValuedOk k) b → Keeps k (AreOk k) body → Keeps k (AreOk k) (for_with map at o a b step body)
 for_with_keeps k map at None a b step body h x y z = tt
@@ -248,11 +249,11 @@ for_keeps k u s at x a b step body g h i =
 -- ---- EXIT and RETURN
 
 pub exit_keeps : (k : Setting) (u : Around) (at : Pos) → Keeps k (AreOk k) (rules.exit u at)
-exit_keeps k u at = wants_keeps k (AreOk k) u.in_loop 35 at (stmt.Exit ∷ []) (named_s k stmt.Exit Exit view_exit tt, tt)
+exit_keeps k u at = wants_keeps k (AreOk k) u.in_loop rule.MisplacedExit at (stmt.Exit ∷ []) (named_s k stmt.Exit Exit view_exit tt, tt)
 
 returned_keeps : (k : Setting) (map : Map) (at : Pos) (o : Option TypeRef) (x : Valued) → ValuedOk k x → Keeps k (AreOk k) (returned map at o x)
 returned_keeps k map at None x h = tt
-returned_keeps k map at (Some t) x h = wants_keeps k (AreOk k) (fits map t x) 36 at (stmt.Return (Some (tree x)) ∷ []) (named_s k _ (Return (Some (expr_view (tree x)))) (view_return (Some (tree x))) (tree_ok k x h), tt)
+returned_keeps k map at (Some t) x h = wants_keeps k (AreOk k) (fits map t x) rule.UnfitReturn at (stmt.Return (Some (tree x)) ∷ []) (named_s k _ (Return (Some (expr_view (tree x)))) (view_return (Some (tree x))) (tree_ok k x h), tt)
 
 none_keeps : (k : Setting) (at : Pos) (o : Option TypeRef) → Keeps k (AreOk k) (return_none at o)
 none_keeps k at None = (named_s k _ (Return None) (view_return None) tt, tt)
@@ -284,7 +285,7 @@ with_meant_keeps k u s None x = designates_keeps k u s InExpression x [] tt
 with_meant_keeps k u s (Some m) x = qualified_keeps k u s m x (find_name u.known m.name)
 
 with_place_keeps : (k : Setting) (map : Map) (at : Pos) (m : Meant) → MeantOk k m → Keeps k (PlaceOk k) (with_place map at m)
-with_place_keeps k map at (means.Place p) h = wants_keeps k (PlaceOk k) _ 37 at p h
+with_place_keeps k map at (means.Place p) h = wants_keeps k (PlaceOk k) _ rule.UnfitWith at p h
 with_place_keeps k map at m h = tt
 
 -- a place that is tested, and its guard

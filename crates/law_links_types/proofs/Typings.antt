@@ -15,6 +15,7 @@ use Rattle.ob_types.specs.declared.desc.Desc.TheVariants as desc
 use Rattle.ob_types.specs.declared.desc.Field.{Field}
 use Rattle.ob_types.specs.declared.typed.TypedType.{TypedType}
 use Rattle.ob_rules.specs.declared.notes.Later.TheVariants as later
+use Rattle.ob_rules.specs.declared.broken.Rule.TheVariants as rule
 use Rattle.ob_rules.specs.Judged.{Judged, if_sound, paired, sound, both, each_sound, ◌▷◌}
 use Rattle.ob_rules.specs.Names.{Around, map_of, in_unit, type_named}
 use Rattle.ob_rules.specs.Phrases.{Phrase}
@@ -53,7 +54,7 @@ AreGoodSections k ss = AllByRecursion (λ (s : WrittenSection). IsGood k s.node)
 -- ---- names and arrays
 
 pub name_good : (k : Setting) (q : Qualident) (u : Around) (open_ok : Bool) → Keeps k (TypingOk k) (type_named u q ▷ named_typing u (first_of q) open_ok)
-name_good k q u open_ok = then_keeps k Anything (TypingOk k) (type_named u q) (named_typing u (first_of q) open_ok) (any_keeps k (type_named u q)) (λ t h. unless_keeps k (TypingOk k) _ 13 (first_of q) _ (λ i. tt))
+name_good k q u open_ok = then_keeps k Anything (TypingOk k) (type_named u q) (named_typing u (first_of q) open_ok) (any_keeps k (type_named u q)) (λ t h. unless_keeps k (TypingOk k) _ rule.MisplacedOpenArray (first_of q) _ (λ i. tt))
 
 fixed_good : (k : Setting) (ls : List Phrase) (element : Written) → IsGood k element → (u : Around) → Stands k u → (name : List ℕ) (m : Mark) → Keeps k (TypingOk k) (fixed_array u name m ls element)
 fixed_good k [] element g u s name m = g u s name m false
@@ -64,7 +65,7 @@ fixed_good k (l ∷ ls) element g u s name m =
 
 pub array_good : (k : Setting) (ls : List Phrase) (at : Pos) (element : Written) → IsGood k element → (u : Around) → Stands k u → (name : List ℕ) (m : Mark) (open_ok : Bool) → Keeps k (TypingOk k) (array u name m at open_ok ls element)
 array_good k [] at element g u s name m open_ok =
-    also_keeps k (TypingOk k) _ 13 at _
+    also_keeps k (TypingOk k) _ rule.MisplacedOpenArray at _
     (then_keeps k (TypingOk k) (TypingOk k) (element.typing u (element_name name) mark.Hidden element.open_array) (λ t. sound (typed_as u name (desc.OpenArray m t.of) t.made)) (g u s (element_name name) mark.Hidden element.open_array) (λ t h. λ i. (tt, h i.1)))
 array_good k (l ∷ ls) at element g u s name m open_ok = fixed_good k (l ∷ ls) element g u s name m
 
@@ -92,7 +93,7 @@ base_good k u s None = tt
 base_good k u s (Some q) =
     let R : TypeRef → Type 0 = λ t. BaseRecorded k.types k.unit (Some t) in
     made_keeps k R (BaseRecorded k.types k.unit) (λ t. Some t) (type_named u q ▷ base_of (map_of u) (first_of q))
-    (then_keeps k Anything R (type_named u q) (base_of (map_of u) (first_of q)) (any_keeps k (type_named u q)) (λ t h. wants_so k R (is_some (record_of (map_of u) t)) 14 (first_of q) t (λ e. stands_if k t (record_of (map_of u) t) (one_stands k u s t (record_of (map_of u) t) refl) e)))
+    (then_keeps k Anything R (type_named u q) (base_of (map_of u) (first_of q)) (any_keeps k (type_named u q)) (λ t h. wants_so k R (is_some (record_of (map_of u) t)) rule.UnfitBase (first_of q) t (λ e. stands_if k t (record_of (map_of u) t) (one_stands k u s t (record_of (map_of u) t) refl) e)))
     (λ t h. h)
 
 pub record_good : (k : Setting) (u : Around) → Stands k u → (name : List ℕ) (m : Mark) (lists : List WrittenFields) → AreGoodFields k lists → (o : Option Qualident) → Keeps k (TypingOk k) (record_with u name m lists (base_if u o))

@@ -1,5 +1,7 @@
 -- The words of the strings that code lays down are those of the strings that its tree uses as arrays: statements and modules.
 use Rattle.std.proofs.Common.{◌≡◌, ℕ, suc, Bool, true, false, List, [], ◌∷◌, ◌++◌, Option, Some, None, refl, arith}
+use Rattle.ob_trap.specs.declared.trap.Trap.{Trap}
+use Rattle.ob_trap.specs.declared.trap.Trap.TheVariants as trap
 use Rattle.ob_tree.specs.declared.pos.Pos.{Pos}
 use Rattle.ob_tree.specs.declared.names.QName.{QName}
 use Rattle.ob_types.specs.declared.types.TypeRef.{TypeRef}
@@ -96,8 +98,8 @@ module _ (c : Context) where
         let end = end_else c otherwise p2 in
         let a = expr_code c want.Value e (suc pc) in
         let b = cases_code c t cases p1 (suc t) x end in
-        let d = else_code c 4 at otherwise p2 (next_cases c cases (suc t)) x in
-        omega (arith, value_laid c want.Value refl e (suc pc), cases_laid t cases p1 (suc t) x end, else_laid 4 at otherwise p2 (next_cases c cases (suc t)) x, laid_both a (bare op.Store ∷ (b ++ d)), laid_both b d, used_both (texts_of_expr W e ++ texts_of_cases W cases) (texts_of_else W otherwise), used_both (texts_of_expr W e) (texts_of_cases W cases))
+        let d = else_code c trap.NoCase at otherwise p2 (next_cases c cases (suc t)) x in
+        omega (arith, value_laid c want.Value refl e (suc pc), cases_laid t cases p1 (suc t) x end, else_laid trap.NoCase at otherwise p2 (next_cases c cases (suc t)) x, laid_both a (bare op.Store ∷ (b ++ d)), laid_both b d, used_both (texts_of_expr W e ++ texts_of_cases W cases) (texts_of_else W otherwise), used_both (texts_of_expr W e) (texts_of_cases W cases))
     stmt_laid (While e body at) pc t x =
         let p1 = end_expr c want.Value e pc in
         let p2 = end_stmts c body (suc p1) in
@@ -131,7 +133,7 @@ module _ (c : Context) where
     stmt_laid (With branches otherwise at) pc t x =
         let p1 = end_branches c branches pc in
         let end = end_else c otherwise p1 in
-        omega (arith, branches_laid branches pc t x end, else_laid 5 at otherwise p1 (next_branches c branches t) x, laid_both (branches_code c branches pc t x end) (else_code c 5 at otherwise p1 (next_branches c branches t) x), used_both (texts_of_branches W branches) (texts_of_else W otherwise))
+        omega (arith, branches_laid branches pc t x end, else_laid trap.NoMatch at otherwise p1 (next_branches c branches t) x, laid_both (branches_code c branches pc t x end) (else_code c trap.NoMatch at otherwise p1 (next_branches c branches t) x), used_both (texts_of_branches W branches) (texts_of_else W otherwise))
 
     pub stmts_laid : (s : Stmts) (pc t x : ℕ) → laid (stmts_code c s pc t x) ≡ used (texts_of_all W s)
     stmts_laid Nothing pc t x = refl
@@ -158,6 +160,6 @@ module _ (c : Context) where
         let r = cases_code c k rest (suc p2) (next_stmts c body t) x end in
         omega (arith, labels_laid k labels pc (suc p1), stmts_laid body (suc p1) t x, cases_laid k rest (suc p2) (next_stmts c body t) x end, laid_both a (jump (suc p2) ∷ (b ++ (jump end ∷ r))), laid_both b (jump end ∷ r), used_both (texts_of_all W body) (texts_of_cases W rest))
 
-    pub else_laid : (kind : ℕ) (at : Pos) (o : Otherwise) (pc t x : ℕ) → laid (else_code c kind at o pc t x) ≡ used (texts_of_else W o)
+    pub else_laid : (kind : Trap) (at : Pos) (o : Otherwise) (pc t x : ℕ) → laid (else_code c kind at o pc t x) ≡ used (texts_of_else W o)
     else_laid kind at NoElse pc t x = refl
     else_laid kind at (Else body) pc t x = stmts_laid body pc t x

@@ -14,6 +14,8 @@ use Rattle.ob_types.specs.declared.desc.Desc.{Desc}
 use Rattle.ob_types.specs.declared.typed.TypedModule.{TypedModule}
 use Rattle.ob_types.specs.TypedView.{module_view}
 use Rattle.ob_rules.specs.declared.broken.Broken.{Broken}
+use Rattle.ob_rules.specs.declared.broken.Rule.TheVariants as rule
+use Rattle.ob_rules.specs.declared.broken.Rule.{Rule}
 use Rattle.ob_rules.specs.Judged.{notes_if}
 use Rattle.ob_rules.specs.Names.{is_out}
 use Rattle.ob_rules.specs.Declarations.{declaration, is_system, target_of, name_judged, module_part, typed_module, checked, first_break, if_unbroken}
@@ -156,9 +158,9 @@ checked_name names tree t e = sym (ap (λ (x : TypedModule). x.name) (unbroken_i
 
 -- ---- imports
 
-quiet_if : (b : Bool) (rule : ℕ) (at : Pos) → (notes_if b rule at).broken ≡ [] → b ≡ false
-quiet_if true rule at e = absurd cc
-quiet_if false rule at e = refl
+quiet_if : (b : Bool) (which : Rule) (at : Pos) → (notes_if b which at).broken ≡ [] → b ≡ false
+quiet_if true which at e = absurd cc
+quiet_if false which at e = refl
 
 quiet_is : (bs : List Broken) (x t : TypedModule) → if_unbroken bs x ≡ Some t → bs ≡ []
 quiet_is [] x t e = refl
@@ -170,7 +172,7 @@ name_plain names tree t e =
     let p = module_part names tree in
     let k = quiet_is p.notes.broken (typed_module names tree.name tree.imports (each declaration tree.decls) p) t e in
     let a = front_empty (name_judged tree.name tree.closing).broken _ k in
-    quiet_if (is_out tree.name.name || is_system tree.name.name) 5 tree.name.pos (front_empty (notes_if (is_out tree.name.name || is_system tree.name.name) 5 tree.name.pos).broken _ a)
+    quiet_if (is_out tree.name.name || is_system tree.name.name) rule.ReservedModule tree.name.pos (front_empty (notes_if (is_out tree.name.name || is_system tree.name.name) rule.ReservedModule tree.name.pos).broken _ a)
 
 other_is : (root m : List ℕ) → is_built_in root ≡ false → IsNoRoot root m → bytes_eq m root ≡ false
 other_is root m plain h = go (is_built_in m) refl

@@ -1,6 +1,8 @@
 -- The code of statements is the same by maps that agree on what it reads.
 use Rattle.std.proofs.Common.{◌≡◌, ℕ, suc, List, [], ◌∷◌, ◌++◌, Bool, true, false, Option, Some, None, refl, ap, ◌∙◌}
 use Rattle.std.specs.List.{AllByRecursion}
+use Rattle.ob_trap.specs.declared.trap.Trap.{Trap}
+use Rattle.ob_trap.specs.declared.trap.Trap.TheVariants as trap
 use Rattle.ob_tree.specs.declared.names.QName.{QName}
 use Rattle.ob_tree.specs.declared.pos.Pos.{Pos}
 use Rattle.ob_types.specs.declared.types.TypeRef.{TypeRef}
@@ -191,7 +193,7 @@ module _ (map other : Map) (m : Module) (Shapes Layouts : QName → Type 0) (agr
         let e2 = after (λ k. cases_end cases (suc k) on.1) e0 in
         cons refl (join (ei want.Value e (suc pc) on.0) (cons refl
         (join (after (λ k. cases_are t cases (suc k) (suc t) x _ _ (after (λ k. else_end otherwise k on.2) e2) on.1) e0)
-        (after (λ k. ap (λ n. else_code here 4 at otherwise k n x) (cases_next here there cases (suc t)) ∙ else_is 4 at otherwise k (next_cases there cases (suc t)) x on.2) e2))))
+        (after (λ k. ap (λ n. else_code here trap.NoCase at otherwise k n x) (cases_next here there cases (suc t)) ∙ else_is trap.NoCase at otherwise k (next_cases there cases (suc t)) x on.2) e2))))
     stmt_is (While e body at) pc t x on =
         let e1 = ee want.Value e pc on.0 in
         let e2 = after (λ k. stmts_end body (suc k) on.1) e1 in
@@ -216,7 +218,7 @@ module _ (map other : Map) (m : Module) (Shapes Layouts : QName → Type 0) (agr
     stmt_is (With branches otherwise at) pc t x on =
         let e1 = branches_end branches pc on.0 in
         join (branches_are branches pc t x _ _ (after (λ k. else_end otherwise k on.1) e1) on.0)
-        (after (λ k. ap (λ n. else_code here 5 at otherwise k n x) (branches_next here there branches t) ∙ else_is 5 at otherwise k (next_branches there branches t) x on.1) e1)
+        (after (λ k. ap (λ n. else_code here trap.NoMatch at otherwise k n x) (branches_next here there branches t) ∙ else_is trap.NoMatch at otherwise k (next_branches there branches t) x on.1) e1)
 
     pub stmts_are : (ss : Stmts) (pc t x : ℕ) → StmtsRead Shapes Layouts ss → stmts_code (with_map map m ps vs) ss pc t x ≡ stmts_code (with_map other m ps vs) ss pc t x
     stmts_are Nothing pc t x on = refl
@@ -241,6 +243,6 @@ module _ (map other : Map) (m : Module) (Shapes Layouts : QName → Type 0) (agr
         (cons (ap (λ k. jump (suc k)) e2) (join (after (λ k. stmts_are body (suc k) t x on.0) e1)
         (cons (ap jump e) (after (λ k. ap (λ n. cases_code here v rest (suc k) n x end) (stmts_next here there body t) ∙ cases_are v rest (suc k) (next_stmts there body t) x end end' e on.1) e2))))
 
-    pub else_is : (kind : ℕ) (at : Pos) (o : Otherwise) (pc t x : ℕ) → ElseRead Shapes Layouts o → else_code (with_map map m ps vs) kind at o pc t x ≡ else_code (with_map other m ps vs) kind at o pc t x
+    pub else_is : (kind : Trap) (at : Pos) (o : Otherwise) (pc t x : ℕ) → ElseRead Shapes Layouts o → else_code (with_map map m ps vs) kind at o pc t x ≡ else_code (with_map other m ps vs) kind at o pc t x
     else_is kind at NoElse pc t x on = refl
     else_is kind at (Else body) pc t x on = stmts_are body pc t x on

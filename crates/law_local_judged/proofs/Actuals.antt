@@ -1,5 +1,5 @@
 -- Actual parameters, with other interfaces around.
-use Rattle.std.proofs.Common.{◌≡◌, refl, sym, ap, ◌∙◌, subst, ℕ, List, [], ◌∷◌, Option, Some, None, Bool, true, false, not}
+use Rattle.std.proofs.Common.{◌≡◌, refl, sym, ap, ◌∙◌, subst, List, [], ◌∷◌, Option, Some, None, Bool, true, false, not}
 use Rattle.std.specs.Prelude.{◌&&◌, ◌||◌, is_some}
 use Rattle.std.specs.List.{AllByRecursion}
 use Rattle.ob_tree.specs.declared.pos.Pos.{Pos}
@@ -23,6 +23,8 @@ use Rattle.ob_rules.specs.declared.meant.Meant.{Meant}
 use Rattle.ob_rules.specs.declared.meant.Meant.TheVariants as means
 use Rattle.ob_rules.specs.declared.values.Place.{Place}
 use Rattle.ob_rules.specs.declared.values.Valued.{Valued}
+use Rattle.ob_rules.specs.declared.broken.Rule.TheVariants as rule
+use Rattle.ob_rules.specs.declared.broken.Rule.{Rule}
 use Rattle.ob_rules.specs.Judged.{Judged, sound, breaks, also, wants}
 use Rattle.ob_rules.specs.Shapes.{Map, open_at, open_element, passing_of, record_of, is_array}
 use Rattle.ob_rules.specs.Names.{Around, map_of}
@@ -61,8 +63,8 @@ module _ (P : QName → Type 0) where
   abbrev AF : Type 0 → Judged Actual → Judged Actual → Type 0
   AF R i j = Follows P (λ x. Unit {0}) (ActualIn P) R i j
 
-  actual_breaks : (R : Type 0) (rule : ℕ) (at : Pos) (j : Judged Actual) → AF R (breaks rule at) j
-  actual_breaks R rule at j = follows_none P (λ x. Unit {0}) (ActualIn P) R (breaks rule at) j refl
+  actual_breaks : (R : Type 0) (which : Rule) (at : Pos) (j : Judged Actual) → AF R (breaks which at) j
+  actual_breaks R which at j = follows_none P (λ x. Unit {0}) (ActualIn P) R (breaks which at) j refl
 
   module _ (f g : Map) (agree : Agree P f g) where
     open_same : (t : TypeRef) → IsIn P t → open_element g t ≡ open_element f t
@@ -84,7 +86,7 @@ module _ (P : QName → Type 0) where
 
     value_actual_same : (t : TypeRef) (start : Pos) (x : Valued) → IsIn P t → KindIn P (type x) → value_actual g t start x ≡ value_actual f t start x
     value_actual_same t start x i k =
-        three (λ b how a. wants b 25 start (actual_of how t (tree_for a x))) (takes_value_same t x i k) (passing_same P f g agree mode.Value t i) (is_array_same P f g agree t i)
+        three (λ b how a. wants b rule.UnfitParameter start (actual_of how t (tree_for a x))) (takes_value_same t x i k) (passing_same P f g agree mode.Value t i) (is_array_same P f g agree t i)
 
     tree_for_mentions : (b : Bool) (x : Valued) → ExprIn P (tree_for b x) → ValuedIn P x
     tree_for_mentions true x h = text_tree_mentions P x h
@@ -94,7 +96,7 @@ module _ (P : QName → Type 0) where
     value_actual_follows t start x tied =
         follows_weaker P (λ x. Unit {0}) (ActualIn P) (IsIn P t × ValuedIn P x) (ValuedIn P x) (value_actual f t start x) (value_actual g t start x) (λ r. r.1)
         (follows_to P (λ x. Unit {0}) (ActualIn P) (IsIn P t × ValuedIn P x) (value_actual f t start x) (value_actual g t start x)
-        (follows_wants P (λ x. Unit {0}) (ActualIn P) (IsIn P t × ValuedIn P x) (takes_value f (open_element f t) t x) (takes_value f (open_element f t) t x) 25 start (actual_of (passing_of f mode.Value t) t (tree_for (is_array f t) x)) tt
+        (follows_wants P (λ x. Unit {0}) (ActualIn P) (IsIn P t × ValuedIn P x) (takes_value f (open_element f t) t x) (takes_value f (open_element f t) t x) rule.UnfitParameter start (actual_of (passing_of f mode.Value t) t (tree_for (is_array f t) x)) tt
         (λ m. let k = actual_mentions (passing_of f mode.Value t) t (tree_for (is_array f t) x) m in (k.0, tree_for_mentions (is_array f t) x k.1)) (λ r. refl))
         (λ r. value_actual_same t start x r.0 (tied r.1)))
 
@@ -117,35 +119,35 @@ module _ (P : QName → Type 0) where
 
     variable_actual_same : (t : TypeRef) (start : Pos) (p : Place) → IsIn P t → IsIn P p.of → variable_actual g t start p ≡ variable_actual f t start p
     variable_actual_same t start p i k =
-        two (λ b how. also (not b) 25 start (also p.read_only 26 start (also p.guarded 38 start (sound (actual_of how t (e.Designator p.designator.inner))))))
+        two (λ b how. also (not b) rule.UnfitParameter start (also p.read_only rule.NotChangeable start (also p.guarded rule.GuardedVarParameter start (sound (actual_of how t (e.Designator p.designator.inner))))))
         (takes_variable_same t p.of i k) (passing_same P f g agree mode.Var t i)
 
     abbrev VR : TypeRef → Place → Type 0
     VR t p = IsIn P t × PlaceIn P p
 
-    also_self : (R : Type 0) (b : Bool) (rule : ℕ) (at : Pos) (i : Judged Actual) → AF R i i → AF R (also b rule at i) (also b rule at i)
-    also_self R b rule at i h = follows_also P (λ x. Unit {0}) (ActualIn P) R b b rule at i i h (λ r. refl)
+    also_self : (R : Type 0) (b : Bool) (which : Rule) (at : Pos) (i : Judged Actual) → AF R i i → AF R (also b which at i) (also b which at i)
+    also_self R b which at i h = follows_also P (λ x. Unit {0}) (ActualIn P) R b b which at i i h (λ r. refl)
 
     variable_actual_follows : (t : TypeRef) (start : Pos) (p : Place) → PlaceTied P p → AF (PlaceIn P p) (variable_actual f t start p) (variable_actual g t start p)
     variable_actual_follows t start p tied =
         follows_weaker P (λ x. Unit {0}) (ActualIn P) (VR t p) (PlaceIn P p) (variable_actual f t start p) (variable_actual g t start p) (λ r. r.1)
         (follows_to P (λ x. Unit {0}) (ActualIn P) (VR t p) (variable_actual f t start p) (variable_actual g t start p)
-        (also_self (VR t p) (not (takes_variable f (open_element f t) t p.of)) 25 start (unless_read_only f t start p)
-        (also_self (VR t p) p.read_only 26 start (unless_guarded f t start p)
-        (also_self (VR t p) p.guarded 38 start (sound (actual_of (passing_of f mode.Var t) t (e.Designator p.designator.inner)))
+        (also_self (VR t p) (not (takes_variable f (open_element f t) t p.of)) rule.UnfitParameter start (unless_read_only f t start p)
+        (also_self (VR t p) p.read_only rule.NotChangeable start (unless_guarded f t start p)
+        (also_self (VR t p) p.guarded rule.GuardedVarParameter start (sound (actual_of (passing_of f mode.Var t) t (e.Designator p.designator.inner)))
         (follows_sound P (λ x. Unit {0}) (ActualIn P) (VR t p) (actual_of (passing_of f mode.Var t) t (e.Designator p.designator.inner)) tt
         (λ m. let k = actual_mentions (passing_of f mode.Var t) t (e.Designator p.designator.inner) m in (k.0, value_of_mentions P p.designator.inner k.1))))))
         (λ r. variable_actual_same t start p r.0 (tied r.1)))
 
     pub meant_actual_follows : (t : TypeRef) (start : Pos) (m : Meant) → MeantTied P m → AF (MeantIn P m) (meant_actual f t start m) (meant_actual g t start m)
     meant_actual_follows t start (means.Place p) h = variable_actual_follows t start p h
-    meant_actual_follows t start (means.Call x) h = actual_breaks (MeantIn P (means.Call x)) 25 start (breaks 25 start)
-    meant_actual_follows t start (means.Constant c) h = actual_breaks (Unit {0}) 26 start (breaks 26 start)
-    meant_actual_follows t start (means.Procedure q s) h = actual_breaks (Unit {0}) 26 start (breaks 26 start)
-    meant_actual_follows t start (means.Bound c) h = actual_breaks (MeantIn P (means.Bound c)) 26 start (breaks 26 start)
-    meant_actual_follows t start (means.Out p) h = actual_breaks (Unit {0}) 26 start (breaks 26 start)
-    meant_actual_follows t start (means.Predeclared p) h = actual_breaks (Unit {0}) 26 start (breaks 26 start)
-    meant_actual_follows t start (means.Statement s) h = actual_breaks (MeantIn P (means.Statement s)) 26 start (breaks 26 start)
+    meant_actual_follows t start (means.Call x) h = actual_breaks (MeantIn P (means.Call x)) rule.UnfitParameter start (breaks rule.UnfitParameter start)
+    meant_actual_follows t start (means.Constant c) h = actual_breaks (Unit {0}) rule.NotChangeable start (breaks rule.NotChangeable start)
+    meant_actual_follows t start (means.Procedure q s) h = actual_breaks (Unit {0}) rule.NotChangeable start (breaks rule.NotChangeable start)
+    meant_actual_follows t start (means.Bound c) h = actual_breaks (MeantIn P (means.Bound c)) rule.NotChangeable start (breaks rule.NotChangeable start)
+    meant_actual_follows t start (means.Out p) h = actual_breaks (Unit {0}) rule.NotChangeable start (breaks rule.NotChangeable start)
+    meant_actual_follows t start (means.Predeclared p) h = actual_breaks (Unit {0}) rule.NotChangeable start (breaks rule.NotChangeable start)
+    meant_actual_follows t start (means.Statement s) h = actual_breaks (MeantIn P (means.Statement s)) rule.NotChangeable start (breaks rule.NotChangeable start)
 
   -- ---- phrases
 
@@ -179,7 +181,7 @@ module _ (P : QName → Type 0) where
     maps = maps_agree P u s a
 
     var_follows : (t : TypeRef) (p : Phrase) (o : Option (Around → Judged Meant)) → MeantFollows o → AF (Unit {0}) (var_actual u t p o) (var_actual v t p o)
-    var_follows t p None h = follows_none P (λ x. Unit {0}) (ActualIn P) (Unit {0}) (var_actual u t p None) (var_actual v t p None) (none_then (p.value u) (λ x. breaks 25 p.start) (λ x. refl))
+    var_follows t p None h = follows_none P (λ x. Unit {0}) (ActualIn P) (Unit {0}) (var_actual u t p None) (var_actual v t p None) (none_then (p.value u) (λ x. breaks rule.UnfitParameter p.start) (λ x. refl))
     var_follows t p (Some w) h =
         follows_then P (MeantTied P) (MeantIn P) (λ x. Unit {0}) (ActualIn P) (Unit {0}) (w u) (w v) (meant_actual (map_of u) t p.start) (meant_actual (map_of v) t p.start) h
         (λ m k. meant_actual_follows (map_of u) (map_of v) maps t p.start m k)
@@ -191,7 +193,7 @@ module _ (P : QName → Type 0) where
         (λ x k. value_actual_follows (map_of u) (map_of v) maps t p.start x k)
 
     var_named : (t : TypeRef) (p : Phrase) (o : Option (Around → Judged Meant)) → MeantNamed p.name o → (x : Actual) → (var_actual u t p o).node ≡ Some x → SaidIn P (var_actual u t p o).notes → NameSame p.name
-    var_named t p None h x e said = none_some (sym (none_then (p.value u) (λ x. breaks 25 p.start) (λ x. refl)) ∙ e)
+    var_named t p None h x e said = none_some (sym (none_then (p.value u) (λ x. breaks rule.UnfitParameter p.start) (λ x. refl)) ∙ e)
     var_named t p (Some w) h x e said =
         let n = then_node (w u) (meant_actual (map_of u) t p.start) x e in
         h n.0 n.1 (front_said P (w u) (meant_actual (map_of u) t p.start) said)

@@ -8,6 +8,7 @@ use Rattle.ob_types.specs.declared.desc.Desc.{Desc}
 use Rattle.ob_types.specs.declared.desc.Desc.TheVariants as desc
 use Rattle.ob_types.specs.declared.desc.Method.{Method}
 use Rattle.ob_types.specs.declared.typed.TypedType.{TypedType}
+use Rattle.ob_rules.specs.declared.broken.Rule.TheVariants as rule
 use Rattle.ob_rules.specs.Judged.{notes_if, joined, no_notes}
 use Rattle.ob_rules.specs.Shapes.{Map, Member, AField, AMethod, member}
 use Rattle.ob_rules.specs.Names.{Around, map_of}
@@ -47,7 +48,7 @@ module _ (P : QName → Type 0) (f g : Map) (agree : Agree P f g) where
 
   forward_same : (b : Bool) (all : List Head) (x : Head) → AllByRecursion (HeadIn P) all → HeadIn P x → forward_if b g all x ≡ forward_if b f all x
   forward_same false all x h k = refl
-  forward_same true all x h k = ap (λ b. notes_if b 18 x.at) (broken_same x (find (answers x) all) k (λ y e. found (HeadIn P) (answers x) all y h e))
+  forward_same true all x h k = ap (λ b. notes_if b rule.UnmatchedForward x.at) (broken_same x (find (answers x) all) k (λ y e. found (HeadIn P) (answers x) all y h e))
 
   -- FORWARD DECLARATIONS say the same
   pub forwards_same : (all xs : List Head) → AllByRecursion (HeadIn P) all → AllByRecursion (HeadIn P) xs → forwards_judged g all xs ≡ forwards_judged f all xs

@@ -31,6 +31,7 @@ use Rattle.ob_rules.specs.declared.meant.Chosen.{Chosen}
 use Rattle.ob_rules.specs.declared.meant.Where.{Where}
 use Rattle.ob_rules.specs.declared.values.Place.{Place}
 use Rattle.ob_rules.specs.declared.values.Valued.{Valued}
+use Rattle.ob_rules.specs.declared.broken.Rule.TheVariants as rule
 use Rattle.ob_rules.specs.Judged.{Judged, sound, silent, also, wants, both, ◌▷◌}
 use Rattle.ob_rules.specs.Shapes.{base_record}
 use Rattle.ob_rules.specs.Names.{Around, map_of, bound_for}
@@ -125,14 +126,14 @@ module _ (P : QName → Type 0) where
       where
         last : (xs : List Actual) → VF (AI xs × R) (called_with w at g (length ps) F xs) (called_with w at g (length ps) F xs)
         last xs =
-            follows_then P (λ y. y ≡ xs) (λ y. AI y × R) (ValuedTied P) (ValuedIn P) (AI xs × R) (wants (nat_eq (length ps) (length g.params)) 24 at xs) (wants (nat_eq (length ps) (length g.params)) 24 at xs)
-            (λ ys. also (misplaced w (is_some g.result)) 27 at (sound (computed (F ys) (result_type g.result)))) (λ ys. also (misplaced w (is_some g.result)) 27 at (sound (computed (F ys) (result_type g.result))))
-            (follows_wants P (λ y. y ≡ xs) (λ y. AI y × R) (AI xs × R) (nat_eq (length ps) (length g.params)) (nat_eq (length ps) (length g.params)) 24 at xs refl (λ m. m) (λ r. refl))
-            (λ ys t. follows_also P (ValuedTied P) (ValuedIn P) (AI ys × R) (misplaced w (is_some g.result)) (misplaced w (is_some g.result)) 27 at (sound (computed (F ys) (result_type g.result))) (sound (computed (F ys) (result_type g.result)))
+            follows_then P (λ y. y ≡ xs) (λ y. AI y × R) (ValuedTied P) (ValuedIn P) (AI xs × R) (wants (nat_eq (length ps) (length g.params)) rule.WrongParameterCount at xs) (wants (nat_eq (length ps) (length g.params)) rule.WrongParameterCount at xs)
+            (λ ys. also (misplaced w (is_some g.result)) rule.MisplacedCall at (sound (computed (F ys) (result_type g.result)))) (λ ys. also (misplaced w (is_some g.result)) rule.MisplacedCall at (sound (computed (F ys) (result_type g.result))))
+            (follows_wants P (λ y. y ≡ xs) (λ y. AI y × R) (AI xs × R) (nat_eq (length ps) (length g.params)) (nat_eq (length ps) (length g.params)) rule.WrongParameterCount at xs refl (λ m. m) (λ r. refl))
+            (λ ys t. follows_also P (ValuedTied P) (ValuedIn P) (AI ys × R) (misplaced w (is_some g.result)) (misplaced w (is_some g.result)) rule.MisplacedCall at (sound (computed (F ys) (result_type g.result))) (sound (computed (F ys) (result_type g.result)))
             (follows_sound P (ValuedTied P) (ValuedIn P) (AI ys × R) (computed (F ys) (result_type g.result)) (λ k. (m ys k).0.1) (λ k. let r = m ys k in (r.0.0, r.1))) (λ r. refl))
 
         unfit : (xs : List Actual) → nat_eq (length ps) (length g.params) ≡ false → (called_with w at g (length ps) F xs).node ≡ None
-        unfit xs e = ap (λ b. (wants b 24 at xs ▷ λ ys. also (misplaced w (is_some g.result)) 27 at (sound (computed (F ys) (result_type g.result)))).node) e
+        unfit xs e = ap (λ b. (wants b rule.WrongParameterCount at xs ▷ λ ys. also (misplaced w (is_some g.result)) rule.MisplacedCall at (sound (computed (F ys) (result_type g.result)))).node) e
 
         by : (b : Bool) → nat_eq (length ps) (length g.params) ≡ b → VF R (called u w at g ps F) (called v w at g ps F)
         by true e =
@@ -192,7 +193,7 @@ module _ (P : QName → Type 0) where
     bound_follows true r w at c ps h e k =
         let f = called_follows (PlaceIn P c.receiver) w at c.method.signature ps (λ xs. typed.Call (bound_callee c c.base) (receiver_actual c.method.receiver c ∷ xs) at c.method.signature.result) h
         (λ xs m. let b = bound_mentions (bound_callee c c.base) (receiver_actual c.method.receiver c) xs at c.method.signature.result (callee_receives c c.base) m in (b.0, receiver_mentions c.method.receiver c b.1)) in
-        let g = follows_also P (ValuedTied P) (ValuedIn P) (PlaceIn P c.receiver) (is_record_receiver c.method.receiver && ((receiver_place c).read_only && is_none c.base)) (is_record_receiver c.method.receiver && ((receiver_place c).read_only && is_none c.base)) 26 at
+        let g = follows_also P (ValuedTied P) (ValuedIn P) (PlaceIn P c.receiver) (is_record_receiver c.method.receiver && ((receiver_place c).read_only && is_none c.base)) (is_record_receiver c.method.receiver && ((receiver_place c).read_only && is_none c.base)) rule.NotChangeable at
         (called u w at c.method.signature ps (λ xs. typed.Call (bound_callee c c.base) (receiver_actual c.method.receiver c ∷ xs) at c.method.signature.result))
         (called v w at c.method.signature ps (λ xs. typed.Call (bound_callee c c.base) (receiver_actual c.method.receiver c ∷ xs) at c.method.signature.result)) f (λ r. refl) in
         record { keeps = g.keeps; same = λ x l said m. let q = g.same x l said m in (q.0, ap (λ b. call_bound_sound b v w at c ps) (k q.0) ∙ q.1) }
@@ -208,7 +209,7 @@ module _ (P : QName → Type 0) where
     called_named w at g p F h x k said = by g.params refl
       where
         by : (fs : List (Mode × TypeRef)) → g.params ≡ fs → NameSame P u s a p.name
-        by [] e = none_some (sym (none_then (actuals u g.params (p ∷ [])) (called_with w at g 1 F) (λ xs. ap (λ fs. (wants (nat_eq 1 (length fs)) 24 at xs ▷ λ ys. also (misplaced w (is_some g.result)) 27 at (sound (computed (F ys) (result_type g.result)))).node) e)) ∙ k)
+        by [] e = none_some (sym (none_then (actuals u g.params (p ∷ [])) (called_with w at g 1 F) (λ xs. ap (λ fs. (wants (nat_eq 1 (length fs)) rule.WrongParameterCount at xs ▷ λ ys. also (misplaced w (is_some g.result)) rule.MisplacedCall at (sound (computed (F ys) (result_type g.result)))).node) e)) ∙ k)
         by (f ∷ fs) e =
             let n = then_node (actuals u g.params (p ∷ [])) (called_with w at g 1 F) x k in
             let m : (actuals u (f ∷ fs) (p ∷ [])).node ≡ Some n.0 = sym (ap (λ gs. (actuals u gs (p ∷ [])).node) e) ∙ n.1 in

@@ -16,6 +16,7 @@ use Rattle.ob_types.specs.declared.value.Value.{Value}
 use Rattle.ob_rules.specs.declared.entity.Entity.{Entity}
 use Rattle.ob_rules.specs.declared.entity.Entity.TheVariants as entity
 use Rattle.ob_rules.specs.declared.entity.Known.{Known}
+use Rattle.ob_rules.specs.declared.broken.Rule.TheVariants as rule
 use Rattle.ob_rules.specs.Judged.{notes_if, both, ◌▷◌}
 use Rattle.ob_rules.specs.Names.{Around, found_in_scope}
 use Rattle.ob_rules.specs.Expressions.{phrase_of, constant_value}
@@ -39,7 +40,7 @@ not_empty {A} {B} {x} {xs} e = absurd cc
 -- ---- what is declared
 
 -- what is declared once is known
-declared_sound : (o : Option Known) (u : Around) (x : Ident) (e : Entity) → (notes_if (is_some o) 1 x.pos).broken ≡ [] → AreSound (declare_if o u x e).known → IsSound e
+declared_sound : (o : Option Known) (u : Around) (x : Ident) (e : Entity) → (notes_if (is_some o) rule.DeclaredTwice x.pos).broken ≡ [] → AreSound (declare_if o u x e).known → IsSound e
 declared_sound None u x e q h = h.0
 declared_sound (Some k) u x e q h = not_empty q
 

@@ -32,6 +32,7 @@ use Rattle.ob_rules.specs.declared.meant.Meant.TheVariants as means
 use Rattle.ob_rules.specs.declared.values.Place.{Place}
 use Rattle.ob_rules.specs.declared.values.Valued.{Valued}
 use Rattle.ob_rules.specs.declared.values.Valued.TheVariants as valued
+use Rattle.ob_rules.specs.declared.broken.Rule.TheVariants as rule
 use Rattle.ob_rules.specs.Judged.{Judged, sound, silent, breaks}
 use Rattle.ob_rules.specs.Shapes.{Map, array_of, pointed, is_held, record_of}
 use Rattle.ob_rules.specs.Values.{computed, is, width as width_of, is_integer, is_chars, text_of, text_tree, tree, type, constant_in, place_in}
@@ -108,7 +109,7 @@ module _ (P : QName → Type 0) where
     FF R o = Follows P (MeantTied P) (MeantIn P) R (if_fit at o) (if_fit at o)
 
     fit_none : (R : Type 0) → FF R None
-    fit_none R = follows_none P (MeantTied P) (MeantIn P) R (breaks 28 at) (breaks 28 at) refl
+    fit_none R = follows_none P (MeantTied P) (MeantIn P) R (breaks rule.UnfitPredeclaredParameters at) (breaks rule.UnfitPredeclaredParameters at) refl
 
     fit_and : {A : Type 0} (R : Type 0) (o : Option A) (F : A → Option (Judged Meant)) → ((x : A) → o ≡ Some x → FF R (F x)) → FF R (and_so o F)
     fit_and R None F h = fit_none R

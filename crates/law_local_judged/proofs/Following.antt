@@ -1,7 +1,8 @@
 -- Judgements that follow one another, of parts that do.
-use Rattle.std.proofs.Common.{◌≡◌, refl, sym, ap, ◌∙◌, subst, ℕ, List, [], ◌∷◌, Option, Some, None, Bool, true, false}
+use Rattle.std.proofs.Common.{◌≡◌, refl, sym, ap, ◌∙◌, subst, List, [], ◌∷◌, Option, Some, None, Bool, true, false}
 use Rattle.ob_tree.specs.declared.pos.Pos.{Pos}
 use Rattle.ob_tree.specs.declared.names.QName.{QName}
+use Rattle.ob_rules.specs.declared.broken.Rule.{Rule}
 use Rattle.ob_rules.specs.Judged.{Judged, Notes, sound, breaks, noted, joined, if_sound, paired, both, made, wants, also, unless, found_or, ◌▷◌}
 use Rattle.law_local_judged.specs.Agreement.{IsIn}
 use Rattle.law_local_judged.specs.Said.{DesignatorIn, SaidIn}
@@ -127,19 +128,19 @@ module _ (P : QName → Type 0) where
           ((q.0, r.0), two (λ x y. both x y) q.1 r.1)
 
   -- a condition that comes out the same where its parts are among the names
-  pub follows_wants : {A : Type 0} (T M : A → Type 0) (R : Type 0) (b c : Bool) (rule : ℕ) (at : Pos) (x : A) → T x → (M x → R) → (R → c ≡ b) → Follows P T M R (wants b rule at x) (wants c rule at x)
+  pub follows_wants : {A : Type 0} (T M : A → Type 0) (R : Type 0) (b c : Bool) (rule : Rule) (at : Pos) (x : A) → T x → (M x → R) → (R → c ≡ b) → Follows P T M R (wants b rule at x) (wants c rule at x)
   follows_wants T M R true c rule at x t r e = record { keeps = λ y k s. subst T (some_same k) t; same = λ y k s m. let h = r (subst M (sym (some_same k)) m) in (h, ap (λ z. wants z rule at x) (e h)) }
   follows_wants T M R false c rule at x t r e = follows_none T M R (breaks rule at) (wants c rule at x) refl
 
-  pub follows_unless : {A : Type 0} (T M : A → Type 0) (R : Type 0) (b c : Bool) (rule : ℕ) (at : Pos) (x : A) → T x → (M x → R) → (R → c ≡ b) → Follows P T M R (unless b rule at x) (unless c rule at x)
+  pub follows_unless : {A : Type 0} (T M : A → Type 0) (R : Type 0) (b c : Bool) (rule : Rule) (at : Pos) (x : A) → T x → (M x → R) → (R → c ≡ b) → Follows P T M R (unless b rule at x) (unless c rule at x)
   follows_unless T M R false c rule at x t r e = record { keeps = λ y k s. subst T (some_same k) t; same = λ y k s m. let h = r (subst M (sym (some_same k)) m) in (h, ap (λ z. unless z rule at x) (e h)) }
   follows_unless T M R true c rule at x t r e = follows_none T M R (breaks rule at) (unless c rule at x) refl
 
-  pub follows_also : {A : Type 0} (T M : A → Type 0) (R : Type 0) (b c : Bool) (rule : ℕ) (at : Pos) (i j : Judged A) → Follows P T M R i j → (R → c ≡ b) → Follows P T M R (also b rule at i) (also c rule at j)
+  pub follows_also : {A : Type 0} (T M : A → Type 0) (R : Type 0) (b c : Bool) (rule : Rule) (at : Pos) (i j : Judged A) → Follows P T M R i j → (R → c ≡ b) → Follows P T M R (also b rule at i) (also c rule at j)
   follows_also T M R true c rule at i j h e = follows_none T M R (also true rule at i) (also c rule at j) refl
   follows_also T M R false c rule at i j h e = record { keeps = h.keeps; same = λ y k s m. let r = h.same y k s m in (r.0, two (λ z w. also z rule at w) (e r.0) r.1) }
 
-  pub follows_found : {A : Type 0} (T M : A → Type 0) (R : Type 0) (rule : ℕ) (at : Pos) (o p : Option A) → ((x : A) → o ≡ Some x → T x) → ((x : A) → o ≡ Some x → M x → R × (p ≡ o)) → Follows P T M R (found_or rule at o) (found_or rule at p)
+  pub follows_found : {A : Type 0} (T M : A → Type 0) (R : Type 0) (rule : Rule) (at : Pos) (o p : Option A) → ((x : A) → o ≡ Some x → T x) → ((x : A) → o ≡ Some x → M x → R × (p ≡ o)) → Follows P T M R (found_or rule at o) (found_or rule at p)
   follows_found T M R rule at None p t r = follows_none T M R (breaks rule at) (found_or rule at p) refl
   follows_found T M R rule at (Some x) p t r = record { keeps = λ y k s. subst T (some_same k) (t x refl); same = λ y k s m. let h = r x refl (subst M (sym (some_same k)) m) in (h.0, ap (found_or rule at) h.1) }
 

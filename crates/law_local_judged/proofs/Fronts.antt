@@ -15,6 +15,7 @@ use Rattle.ob_rules.specs.declared.meant.Meant.{Meant}
 use Rattle.ob_rules.specs.declared.meant.Meant.TheVariants as means
 use Rattle.ob_rules.specs.declared.meant.Where.{Where}
 use Rattle.ob_rules.specs.declared.values.Place.{Place}
+use Rattle.ob_rules.specs.declared.broken.Rule.TheVariants as rule
 use Rattle.ob_rules.specs.Judged.{Judged, sound, breaks, noted, made}
 use Rattle.ob_rules.specs.Names.{Around, find_name, entity_known, name_known, named, exported, is_out, out_procedure, is_type_desc, is_type_behind, known_is, shown_of}
 use Rattle.ob_rules.specs.Phrases.{Behind, Dot}
@@ -50,15 +51,15 @@ module _ (P : QName → Type 0) (u : Around) (s : QName → Option Desc) (a : Ag
   exported_meant_follows start at m x (desc.Const c) = plain (means.Constant c) tt
   exported_meant_follows start at m x (desc.Var k t) = variable_there start (variable_named u start (variable.Module m x) t (is_read_only k)) (variable_named v start (variable.Module m x) t (is_read_only k)) (variable_follows P u s a start (variable.Module m x) t (is_read_only k))
   exported_meant_follows start at m x (desc.Proc g) = plain (means.Procedure (record { «module» = m; object = x }) g) tt
-  exported_meant_follows start at m x (desc.Alias k t) = meant_none (breaks 3 at) (breaks 3 at) refl
-  exported_meant_follows start at m x (desc.Array k n t) = meant_none (breaks 3 at) (breaks 3 at) refl
-  exported_meant_follows start at m x (desc.OpenArray k t) = meant_none (breaks 3 at) (breaks 3 at) refl
-  exported_meant_follows start at m x (desc.Pointer k t) = meant_none (breaks 3 at) (breaks 3 at) refl
-  exported_meant_follows start at m x (desc.ProcType k t) = meant_none (breaks 3 at) (breaks 3 at) refl
-  exported_meant_follows start at m x (desc.Record r) = meant_none (breaks 3 at) (breaks 3 at) refl
+  exported_meant_follows start at m x (desc.Alias k t) = meant_none (breaks rule.WrongKind at) (breaks rule.WrongKind at) refl
+  exported_meant_follows start at m x (desc.Array k n t) = meant_none (breaks rule.WrongKind at) (breaks rule.WrongKind at) refl
+  exported_meant_follows start at m x (desc.OpenArray k t) = meant_none (breaks rule.WrongKind at) (breaks rule.WrongKind at) refl
+  exported_meant_follows start at m x (desc.Pointer k t) = meant_none (breaks rule.WrongKind at) (breaks rule.WrongKind at) refl
+  exported_meant_follows start at m x (desc.ProcType k t) = meant_none (breaks rule.WrongKind at) (breaks rule.WrongKind at) refl
+  exported_meant_follows start at m x (desc.Record r) = meant_none (breaks rule.WrongKind at) (breaks rule.WrongKind at) refl
 
   out_follows : (at : Pos) (o : Option OutProcedure) → MF (Unit {0}) (out_meant at o) (out_meant at o)
-  out_follows at None = meant_none (breaks 2 at) (breaks 2 at) refl
+  out_follows at None = meant_none (breaks rule.NotDeclared at) (breaks rule.NotDeclared at) refl
   out_follows at (Some p) = plain (means.Out p) tt
 
   in_module_follows : (b : Bool) (start : Pos) (m : List ℕ) (x : Ident) → MF (Unit {0}) (in_module b u start m x) (in_module b v start m x)
@@ -68,7 +69,7 @@ module _ (P : QName → Type 0) (u : Around) (s : QName → Option Desc) (a : Ag
       (exported_follows P u s a m x) (λ q h. exported_meant_follows start x.pos m x.name q.1)
 
   module_follows : (start : Pos) (m : List ℕ) (o : Option Ident) → MF (Unit {0}) (module_front u start m o) (module_front v start m o)
-  module_follows start m None = meant_none (breaks 3 start) (breaks 3 start) refl
+  module_follows start m None = meant_none (breaks rule.WrongKind start) (breaks rule.WrongKind start) refl
   module_follows start m (Some y) = in_module_follows (is_out m) start m y
 
   -- ---- the name at the front
@@ -80,9 +81,9 @@ module _ (P : QName → Type 0) (u : Around) (s : QName → Option Desc) (a : Ag
   front_follows x (entity.Forward n g) dot = plain (means.Procedure n g) tt
   front_follows x (entity.Predeclared f) dot = plain (means.Predeclared f) tt
   front_follows x (entity.Module m) dot = module_follows x.pos m dot
-  front_follows x (entity.TypeName t) dot = meant_none (breaks 3 x.pos) (breaks 3 x.pos) refl
-  front_follows x entity.LeftOut dot = meant_none (breaks 3 x.pos) (breaks 3 x.pos) refl
-  front_follows x entity.Unsound dot = meant_none (breaks 3 x.pos) (breaks 3 x.pos) refl
+  front_follows x (entity.TypeName t) dot = meant_none (breaks rule.WrongKind x.pos) (breaks rule.WrongKind x.pos) refl
+  front_follows x entity.LeftOut dot = meant_none (breaks rule.WrongKind x.pos) (breaks rule.WrongKind x.pos) refl
+  front_follows x entity.Unsound dot = meant_none (breaks rule.WrongKind x.pos) (breaks rule.WrongKind x.pos) refl
 
   abbrev Behinds : List Behind → Type 0
   Behinds bs = AreBehind P u s a bs

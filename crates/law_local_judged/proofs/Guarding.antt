@@ -23,6 +23,7 @@ use Rattle.ob_rules.specs.declared.meant.Meant.{Meant}
 use Rattle.ob_rules.specs.declared.meant.Meant.TheVariants as means
 use Rattle.ob_rules.specs.declared.meant.Where.TheVariants.{InExpression}
 use Rattle.ob_rules.specs.declared.values.Place.{Place}
+use Rattle.ob_rules.specs.declared.broken.Rule.TheVariants as rule
 use Rattle.ob_rules.specs.Judged.{Judged, sound, breaks, both, made, ◌▷◌}
 use Rattle.ob_rules.specs.Shapes.{is_pointer}
 use Rattle.ob_rules.specs.Names.{Around, map_of, named, type_named, find_name}
@@ -108,20 +109,20 @@ module _ (P : QName → Type 0) where
 
     module_follows : (m x : Ident) (e : Entity) → MF (with_module u m x e) (with_module v m x e)
     module_follows m x (entity.Module n) = designates_follows P u s a InExpression m (Dot x.pos x ∷ []) (tt, tt)
-    module_follows m x (entity.Variable w t) = meant_none (breaks 3 m.pos) (breaks 3 m.pos) refl
-    module_follows m x (entity.TypeName t) = meant_none (breaks 3 m.pos) (breaks 3 m.pos) refl
-    module_follows m x (entity.Constant c) = meant_none (breaks 3 m.pos) (breaks 3 m.pos) refl
-    module_follows m x (entity.Procedure n g) = meant_none (breaks 3 m.pos) (breaks 3 m.pos) refl
-    module_follows m x (entity.Forward n g) = meant_none (breaks 3 m.pos) (breaks 3 m.pos) refl
-    module_follows m x (entity.Predeclared f) = meant_none (breaks 3 m.pos) (breaks 3 m.pos) refl
-    module_follows m x entity.LeftOut = meant_none (breaks 3 m.pos) (breaks 3 m.pos) refl
-    module_follows m x entity.Unsound = meant_none (breaks 3 m.pos) (breaks 3 m.pos) refl
+    module_follows m x (entity.Variable w t) = meant_none (breaks rule.WrongKind m.pos) (breaks rule.WrongKind m.pos) refl
+    module_follows m x (entity.TypeName t) = meant_none (breaks rule.WrongKind m.pos) (breaks rule.WrongKind m.pos) refl
+    module_follows m x (entity.Constant c) = meant_none (breaks rule.WrongKind m.pos) (breaks rule.WrongKind m.pos) refl
+    module_follows m x (entity.Procedure n g) = meant_none (breaks rule.WrongKind m.pos) (breaks rule.WrongKind m.pos) refl
+    module_follows m x (entity.Forward n g) = meant_none (breaks rule.WrongKind m.pos) (breaks rule.WrongKind m.pos) refl
+    module_follows m x (entity.Predeclared f) = meant_none (breaks rule.WrongKind m.pos) (breaks rule.WrongKind m.pos) refl
+    module_follows m x entity.LeftOut = meant_none (breaks rule.WrongKind m.pos) (breaks rule.WrongKind m.pos) refl
+    module_follows m x entity.Unsound = meant_none (breaks rule.WrongKind m.pos) (breaks rule.WrongKind m.pos) refl
 
     with_named_follows : (m x : Ident) → MF (with_named u m x) (with_named v m x)
     with_named_follows m x = follows_then P (EntityIn P) (λ e. Unit {0}) (MeantTied P) (MeantIn P) (Unit {0}) (named u m) (named v m) (with_module u m x) (with_module v m x) (named_follows P u s a m) (λ e h. module_follows m x e)
 
     qualified_by_follows : (m x : Ident) (e : Entity) → MF (with_qualified_by u m x e) (with_qualified_by v m x e)
-    qualified_by_follows m x (entity.Variable w t) = meant_none (breaks 3 m.pos) (breaks 3 m.pos) refl
+    qualified_by_follows m x (entity.Variable w t) = meant_none (breaks rule.WrongKind m.pos) (breaks rule.WrongKind m.pos) refl
     qualified_by_follows m x (entity.Module n) = with_named_follows m x
     qualified_by_follows m x (entity.TypeName t) = with_named_follows m x
     qualified_by_follows m x (entity.Constant c) = with_named_follows m x
@@ -132,7 +133,7 @@ module _ (P : QName → Type 0) where
     qualified_by_follows m x entity.Unsound = with_named_follows m x
 
     qualified_follows : (m x : Ident) (o : Option Known) → MF (with_qualified u m x o) (with_qualified v m x o)
-    qualified_follows m x None = meant_none (breaks 2 m.pos) (breaks 2 m.pos) refl
+    qualified_follows m x None = meant_none (breaks rule.NotDeclared m.pos) (breaks rule.NotDeclared m.pos) refl
     qualified_follows m x (Some k) = qualified_by_follows m x k.what
 
     with_meant_follows : (o : Option Ident) (x : Ident) → MF (with_meant u o x) (with_meant v o x)
@@ -149,14 +150,14 @@ module _ (P : QName → Type 0) where
     pointer_same t h = ap (λ o. is_some o) (pointed_same P (map_of u) (map_of v) maps t h)
 
     with_place_follows : (at : Pos) (m : Meant) → MeantTied P m → PF (MeantIn P m) (with_place (map_of u) at m) (with_place (map_of v) at m)
-    with_place_follows at (means.Place p) t = follows_wants P (PlaceTied P) (PlaceIn P) (PlaceIn P p) (is_pointer (map_of u) p.of || p.var_record) (is_pointer (map_of v) p.of || p.var_record) 37 at p t (λ m. m) (λ r. ap (λ b. b || p.var_record) (pointer_same p.of (t r)))
-    with_place_follows at (means.Constant c) t = place_none (Unit {0}) (breaks 37 at) (breaks 37 at) refl
-    with_place_follows at (means.Procedure q g) t = place_none (Unit {0}) (breaks 37 at) (breaks 37 at) refl
-    with_place_follows at (means.Bound c) t = place_none (PlaceIn P c.receiver) (breaks 37 at) (breaks 37 at) refl
-    with_place_follows at (means.Out o) t = place_none (Unit {0}) (breaks 37 at) (breaks 37 at) refl
-    with_place_follows at (means.Predeclared f) t = place_none (Unit {0}) (breaks 37 at) (breaks 37 at) refl
-    with_place_follows at (means.Call x) t = place_none (MeantIn P (means.Call x)) (breaks 37 at) (breaks 37 at) refl
-    with_place_follows at (means.Statement x) t = place_none (MeantIn P (means.Statement x)) (breaks 37 at) (breaks 37 at) refl
+    with_place_follows at (means.Place p) t = follows_wants P (PlaceTied P) (PlaceIn P) (PlaceIn P p) (is_pointer (map_of u) p.of || p.var_record) (is_pointer (map_of v) p.of || p.var_record) rule.UnfitWith at p t (λ m. m) (λ r. ap (λ b. b || p.var_record) (pointer_same p.of (t r)))
+    with_place_follows at (means.Constant c) t = place_none (Unit {0}) (breaks rule.UnfitWith at) (breaks rule.UnfitWith at) refl
+    with_place_follows at (means.Procedure q g) t = place_none (Unit {0}) (breaks rule.UnfitWith at) (breaks rule.UnfitWith at) refl
+    with_place_follows at (means.Bound c) t = place_none (PlaceIn P c.receiver) (breaks rule.UnfitWith at) (breaks rule.UnfitWith at) refl
+    with_place_follows at (means.Out o) t = place_none (Unit {0}) (breaks rule.UnfitWith at) (breaks rule.UnfitWith at) refl
+    with_place_follows at (means.Predeclared f) t = place_none (Unit {0}) (breaks rule.UnfitWith at) (breaks rule.UnfitWith at) refl
+    with_place_follows at (means.Call x) t = place_none (MeantIn P (means.Call x)) (breaks rule.UnfitWith at) (breaks rule.UnfitWith at) refl
+    with_place_follows at (means.Statement x) t = place_none (MeantIn P (means.Statement x)) (breaks rule.UnfitWith at) (breaks rule.UnfitWith at) refl
 
     variable_follows : (g : Guard) → PF (Unit {0}) (with_variable u g) (with_variable v g)
     variable_follows g =

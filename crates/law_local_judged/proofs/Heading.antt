@@ -11,6 +11,7 @@ use Rattle.ob_tree.specs.declared.decl.Receiver.{Receiver as RawReceiver}
 use Rattle.ob_types.specs.declared.types.TypeRef.{TypeRef}
 use Rattle.ob_types.specs.declared.desc.Desc.{Desc}
 use Rattle.ob_rules.specs.declared.entity.Entity.TheVariants as entity
+use Rattle.ob_rules.specs.declared.broken.Rule.TheVariants as rule
 use Rattle.ob_rules.specs.Judged.{silent, breaks, both}
 use Rattle.ob_rules.specs.Shapes.{pointed}
 use Rattle.ob_rules.specs.Names.{Around, map_of, in_unit, type_named}
@@ -82,7 +83,7 @@ module _ (P : QName → Type 0) (s : QName → Option Desc) where
     bound_self : (at : Pos) (b : Bool) (t : TypeRef) (c : Bool) (o : Option QName) → IsIn P t → ((q : QName) → o ≡ Some q → P q) → TF P OwnerIn (bound_to at b t c o) (bound_to at b t c o)
     bound_self at b t c (Some q) h i = follows_sound P OwnerIn (λ x. Unit {0}) (Unit {0}) (record { of = t; owner = q; receiver = kind_of b }) (h, i q refl) (λ m. tt)
     bound_self at b t true None h i = follows_none P OwnerIn (λ x. Unit {0}) (Unit {0}) silent silent refl
-    bound_self at b t false None h i = follows_none P OwnerIn (λ x. Unit {0}) (Unit {0}) (breaks 19 at) (breaks 19 at) refl
+    bound_self at b t false None h i = follows_none P OwnerIn (λ x. Unit {0}) (Unit {0}) (breaks rule.UnfitReceiver at) (breaks rule.UnfitReceiver at) refl
 
     owner_follows : (r : RawReceiver) → TF P OwnerIn (owner_of u r) (owner_of v r)
     owner_follows r =

@@ -9,6 +9,7 @@ use Rattle.ob_types.specs.declared.desc.Desc.{Desc}
 use Rattle.ob_types.specs.Tests.{target}
 use Rattle.ob_rules.specs.declared.notes.Later.{Later}
 use Rattle.ob_rules.specs.declared.notes.Later.TheVariants as later
+use Rattle.ob_rules.specs.declared.broken.Rule.TheVariants as rule
 use Rattle.ob_rules.specs.Judged.{notes_if, joined, no_notes}
 use Rattle.ob_rules.specs.Shapes.{is_held, record_of}
 use Rattle.ob_rules.specs.Names.{Around, map_of, is_among}
@@ -82,7 +83,7 @@ module _ (P : QName → Type 0) (u : Around) (s : QName → Option Desc) (a : Ag
 
   field_same : (l : Later) → LaterIn P l → field_judged (map_of v) l ≡ field_judged (map_of u) l
   field_same (later.PointsTo x at t inline) h = refl
-  field_same (later.Inherits x t) h = ap (λ m. notes_if (is_method m) 1 x.pos) (ap (λ o. member_of (map_of v) o x.name) (record_same P (map_of u) (map_of v) maps t h) ∙ member_by (record_of (map_of u) t) x.name (λ q e. record_in P (map_of u) (map_of v) maps t q h e))
+  field_same (later.Inherits x t) h = ap (λ m. notes_if (is_method m) rule.DeclaredTwice x.pos) (ap (λ o. member_of (map_of v) o x.name) (record_same P (map_of u) (map_of v) maps t h) ∙ member_by (record_of (map_of u) t) x.name (λ q e. record_in P (map_of u) (map_of v) maps t q h e))
 
   -- FIELDS that were left are judged the same
   pub fields_same : (ls : List Later) → AllByRecursion (LaterIn P) ls → all_judged (field_judged (map_of v)) ls ≡ all_judged (field_judged (map_of u)) ls

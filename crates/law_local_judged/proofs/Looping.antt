@@ -28,6 +28,7 @@ use Rattle.ob_rules.specs.declared.entity.Entity.TheVariants as entity
 use Rattle.ob_rules.specs.declared.meant.Selects.{Selects}
 use Rattle.ob_rules.specs.declared.values.Place.{Place}
 use Rattle.ob_rules.specs.declared.values.Valued.{Valued}
+use Rattle.ob_rules.specs.declared.broken.Rule.TheVariants as rule
 use Rattle.ob_rules.specs.Judged.{Judged, sound, breaks, both, noted, joined, if_sound, ◌▷◌}
 use Rattle.ob_rules.specs.Shapes.{Map, extends_record, width_of, basic_of, record_of, pointed_record}
 use Rattle.ob_rules.specs.Names.{Around, map_of, named}
@@ -202,7 +203,7 @@ module _ (P : QName → Type 0) where
     judged_follows : (x : Phrase) → Ph x → Follows P (ValuedTied P) (ValuedIn P) (Unit {0}) (case_judged u x) (case_judged v x)
     judged_follows x h =
         follows_then P (ValuedTied P) (ValuedIn P) (ValuedTied P) (ValuedIn P) (Unit {0}) (x.value u) (x.value v) (case_value (map_of u) x.start) (case_value (map_of v) x.start) h.value
-        (λ y t. follows_wants P (ValuedTied P) (ValuedIn P) (ValuedIn P y) (is_some (selects (map_of u) y)) (is_some (selects (map_of v) y)) 33 x.start y t (λ m. m) (λ r. ap (λ o. is_some o) (selects_same y t r)))
+        (λ y t. follows_wants P (ValuedTied P) (ValuedIn P) (ValuedIn P y) (is_some (selects (map_of u) y)) (is_some (selects (map_of v) y)) rule.UnfitCase x.start y t (λ m. m) (λ r. ap (λ o. is_some o) (selects_same y t r)))
 
     pub case_follows : (at : Pos) (x : Phrase) (cs : List Labelled) (o : Option (List Judging)) → Ph x → AllByRecursion LabelledFollows cs → IfFollows P o → SF P (Unit {0}) (case u at x cs o) (case v at x cs o)
     case_follows at x cs o h k l = record { keeps = λ y e said. tt; same = λ y e said m. (tt, by y e said m) }
@@ -237,21 +238,21 @@ module _ (P : QName → Type 0) where
         record { keeps = λ p e said. known p e; same = λ p e said m. f.same p e said (known p e).0 }
 
     integer_follows : (at : Pos) (p : Place) → PlaceKnown p → Follows P PlaceKnown (λ p. Unit {0}) (Unit {0}) (integer_place (map_of u) at p) (integer_place (map_of v) at p)
-    integer_follows at p h = follows_wants P PlaceKnown (λ p. Unit {0}) (Unit {0}) (is_some (width_of (basic_of (map_of u) p.of))) (is_some (width_of (basic_of (map_of v) p.of))) 34 at p h (λ m. tt) (λ r. ap (λ o. is_some (width_of o)) (target_basics P (map_of u) (map_of v) maps p.of h.1))
+    integer_follows at p h = follows_wants P PlaceKnown (λ p. Unit {0}) (Unit {0}) (is_some (width_of (basic_of (map_of u) p.of))) (is_some (width_of (basic_of (map_of v) p.of))) rule.UnfitFor at p h (λ m. tt) (λ r. ap (λ o. is_some (width_of o)) (target_basics P (map_of u) (map_of v) maps p.of h.1))
 
     no_place : (i j : Judged Place) → i.node ≡ None → Follows P PlaceKnown (λ p. Unit {0}) (Unit {0}) i j
     no_place i j e = follows_none P PlaceKnown (λ p. Unit {0}) (Unit {0}) i j e
 
     entity_follows : (at : Pos) (x : Ident) (e : Entity) → EntityIn P e → Follows P PlaceKnown (λ p. Unit {0}) (Unit {0}) (for_variable u at x e) (for_variable v at x e)
     entity_follows at x (entity.Variable w t) h = follows_then P PlaceKnown (λ p. Unit {0}) PlaceKnown (λ p. Unit {0}) (Unit {0}) (variable_named u x.pos w t false) (variable_named v x.pos w t false) (λ p. integer_place (map_of u) at p) (λ p. integer_place (map_of v) at p) (place_follows x.pos w t h) (λ p k. integer_follows at p k)
-    entity_follows at x (entity.TypeName t) h = no_place (breaks 3 x.pos) (breaks 3 x.pos) refl
-    entity_follows at x (entity.Module m) h = no_place (breaks 3 x.pos) (breaks 3 x.pos) refl
-    entity_follows at x (entity.Constant c) h = no_place (breaks 34 at) (breaks 34 at) refl
-    entity_follows at x (entity.Procedure n g) h = no_place (breaks 34 at) (breaks 34 at) refl
-    entity_follows at x (entity.Forward n g) h = no_place (breaks 34 at) (breaks 34 at) refl
-    entity_follows at x (entity.Predeclared f) h = no_place (breaks 34 at) (breaks 34 at) refl
-    entity_follows at x entity.LeftOut h = no_place (breaks 34 at) (breaks 34 at) refl
-    entity_follows at x entity.Unsound h = no_place (breaks 34 at) (breaks 34 at) refl
+    entity_follows at x (entity.TypeName t) h = no_place (breaks rule.WrongKind x.pos) (breaks rule.WrongKind x.pos) refl
+    entity_follows at x (entity.Module m) h = no_place (breaks rule.WrongKind x.pos) (breaks rule.WrongKind x.pos) refl
+    entity_follows at x (entity.Constant c) h = no_place (breaks rule.UnfitFor at) (breaks rule.UnfitFor at) refl
+    entity_follows at x (entity.Procedure n g) h = no_place (breaks rule.UnfitFor at) (breaks rule.UnfitFor at) refl
+    entity_follows at x (entity.Forward n g) h = no_place (breaks rule.UnfitFor at) (breaks rule.UnfitFor at) refl
+    entity_follows at x (entity.Predeclared f) h = no_place (breaks rule.UnfitFor at) (breaks rule.UnfitFor at) refl
+    entity_follows at x entity.LeftOut h = no_place (breaks rule.UnfitFor at) (breaks rule.UnfitFor at) refl
+    entity_follows at x entity.Unsound h = no_place (breaks rule.UnfitFor at) (breaks rule.UnfitFor at) refl
 
     whole_variable : (at : Pos) (x : Ident) → Follows P PlaceKnown (λ p. Unit {0}) (Unit {0}) (named u x ▷ for_variable u at x) (named v x ▷ for_variable v at x)
     whole_variable at x = follows_then P (EntityIn P) (λ e. Unit {0}) PlaceKnown (λ p. Unit {0}) (Unit {0}) (named u x) (named v x) (for_variable u at x) (for_variable v at x) (named_follows P u s a x) (λ e h. entity_follows at x e h)
@@ -259,7 +260,7 @@ module _ (P : QName → Type 0) where
     bound_follows : (at : Pos) (p : Place) (i j : Judged Valued) → PlaceKnown p → Follows P (ValuedTied P) (ValuedIn P) (Unit {0}) i j → Follows P (λ x. Unit {0}) (ExprIn P) (Unit {0}) (i ▷ for_bound (map_of u) at p) (j ▷ for_bound (map_of v) at p)
     bound_follows at p i j k h =
         follows_then P (ValuedTied P) (ValuedIn P) (λ x. Unit {0}) (ExprIn P) (Unit {0}) i j (for_bound (map_of u) at p) (for_bound (map_of v) at p) h
-        (λ y t. follows_wants P (λ x. Unit {0}) (ExprIn P) (ValuedIn P y) (fits (map_of u) p.of y) (fits (map_of v) p.of y) 34 at (tree y) tt (λ m. tree_mentions P y m) (λ r. fits_same P (map_of u) (map_of v) maps p.of y k.1 (t r)))
+        (λ y t. follows_wants P (λ x. Unit {0}) (ExprIn P) (ValuedIn P y) (fits (map_of u) p.of y) (fits (map_of v) p.of y) rule.UnfitFor at (tree y) tt (λ m. tree_mentions P y m) (λ r. fits_same P (map_of u) (map_of v) maps p.of y k.1 (t r)))
 
     step_follows : (at : Pos) (o : Option Phrase) → IfPhrase P u s a o → NF (for_step u at o) (for_step v at o)
     step_follows at None h = follows_self (λ x. Unit {0}) (λ x. Unit {0}) (sound (pos 1)) (λ x. tt)

@@ -14,6 +14,7 @@ use Rattle.ob_types.specs.declared.typed.OutProcedure.{OutProcedure}
 use Rattle.ob_rules.specs.declared.entity.Entity.{Entity}
 use Rattle.ob_rules.specs.declared.entity.Entity.TheVariants as entity
 use Rattle.ob_rules.specs.declared.entity.Known.{Known}
+use Rattle.ob_rules.specs.declared.broken.Rule.TheVariants as rule
 use Rattle.ob_rules.specs.Judged.{Judged, breaks, ◌▷◌}
 use Rattle.ob_rules.specs.Shapes.{same_name}
 use Rattle.ob_rules.specs.Names.{Around, own_desc, out_string, type_desc, map_of, find_name, variable_known, is_enclosing, entity_known, name_known, named, shown_of, export_known, exported, out_procedure, is_out, type_of_desc, out_type, type_in, type_of_entity, type_behind, unless_variable_is, unless_variable, type_by, type_named}
@@ -94,7 +95,7 @@ module _ (P : QName → Type 0) (u : Around) (s : QName → Option Desc) (a : Ag
   named_follows x = by (find_name u.known x.name) refl
     where
       by : (o : Option Known) → find_name u.known x.name ≡ o → Follows P (EntityIn P) (λ x. Unit {0}) (Unit {0}) (name_known u x.pos o) (name_known v x.pos o)
-      by None e = follows_none P (EntityIn P) (λ x. Unit {0}) (Unit {0}) (breaks 2 x.pos) (breaks 2 x.pos) refl
+      by None e = follows_none P (EntityIn P) (λ x. Unit {0}) (Unit {0}) (breaks rule.NotDeclared x.pos) (breaks rule.NotDeclared x.pos) refl
       by (Some k) e = entity_follows x.pos k.scope k.what (known_in x.name k e)
 
   -- ---- what an imported module shows
@@ -109,7 +110,7 @@ module _ (P : QName → Type 0) (u : Around) (s : QName → Option Desc) (a : Ag
       q = record { «module» = m; object = x.name }
 
       by : (o : Option Desc) → shown_of (u.shown q) ≡ o → Follows P Exported (λ x. Unit {0}) (Unit {0}) (export_known q x.pos o) (export_known q x.pos (shown_of (s q)))
-      by None e = follows_none P Exported (λ x. Unit {0}) (Unit {0}) (breaks 2 x.pos) (export_known q x.pos (shown_of (s q))) refl
+      by None e = follows_none P Exported (λ x. Unit {0}) (Unit {0}) (breaks rule.NotDeclared x.pos) (export_known q x.pos (shown_of (s q))) refl
       by (Some d) e = record {
         keeps = λ y k said. subst Exported (some_same k) said.objects.0;
         same = λ y k said m. (tt, ap (λ o. export_known q x.pos (shown_of o)) (a.same q said.objects.0) ∙ ap (export_known q x.pos) e);
@@ -124,9 +125,9 @@ module _ (P : QName → Type 0) (u : Around) (s : QName → Option Desc) (a : Ag
   none_follows i j e = follows_none P (IsIn P) (λ x. Unit {0}) (Unit {0}) i j e
 
   desc_follows : (at : Pos) (q : QName) (d : Desc) → P q → TF (type_of_desc at q d) (type_of_desc at q d)
-  desc_follows at q (desc.Const c) h = none_follows (breaks 3 at) (breaks 3 at) refl
-  desc_follows at q (desc.Var m t) h = none_follows (breaks 3 at) (breaks 3 at) refl
-  desc_follows at q (desc.Proc g) h = none_follows (breaks 3 at) (breaks 3 at) refl
+  desc_follows at q (desc.Const c) h = none_follows (breaks rule.WrongKind at) (breaks rule.WrongKind at) refl
+  desc_follows at q (desc.Var m t) h = none_follows (breaks rule.WrongKind at) (breaks rule.WrongKind at) refl
+  desc_follows at q (desc.Proc g) h = none_follows (breaks rule.WrongKind at) (breaks rule.WrongKind at) refl
   desc_follows at q (desc.Alias m t) h = record { keeps = λ y k said. subst (IsIn P) (some_same k) h; same = λ y k said m. (tt, refl) }
   desc_follows at q (desc.Array m n t) h = record { keeps = λ y k said. subst (IsIn P) (some_same k) h; same = λ y k said m. (tt, refl) }
   desc_follows at q (desc.OpenArray m t) h = record { keeps = λ y k said. subst (IsIn P) (some_same k) h; same = λ y k said m. (tt, refl) }
@@ -135,8 +136,8 @@ module _ (P : QName → Type 0) (u : Around) (s : QName → Option Desc) (a : Ag
   desc_follows at q (desc.Record r) h = record { keeps = λ y k said. subst (IsIn P) (some_same k) h; same = λ y k said m. (tt, refl) }
 
   out_follows : (at : Pos) (o : Option OutProcedure) → TF (out_type at o) (out_type at o)
-  out_follows at None = none_follows (breaks 2 at) (breaks 2 at) refl
-  out_follows at (Some p) = none_follows (breaks 3 at) (breaks 3 at) refl
+  out_follows at None = none_follows (breaks rule.NotDeclared at) (breaks rule.NotDeclared at) refl
+  out_follows at (Some p) = none_follows (breaks rule.WrongKind at) (breaks rule.WrongKind at) refl
 
   type_in_follows : (b : Bool) (m : List ℕ) (x : Ident) → TF (type_in b u m x) (type_in b v m x)
   type_in_follows true m x = out_follows x.pos (out_procedure x.name)
@@ -144,31 +145,31 @@ module _ (P : QName → Type 0) (u : Around) (s : QName → Option Desc) (a : Ag
 
   behind_follows : (m x : Ident) (e : Entity) → TF (type_behind u m x e) (type_behind v m x e)
   behind_follows m x (entity.Module n) = type_in_follows (is_out n) n x
-  behind_follows m x (entity.Variable w t) = none_follows (breaks 3 m.pos) (breaks 3 m.pos) refl
-  behind_follows m x (entity.TypeName t) = none_follows (breaks 3 m.pos) (breaks 3 m.pos) refl
-  behind_follows m x (entity.Constant c) = none_follows (breaks 3 m.pos) (breaks 3 m.pos) refl
-  behind_follows m x (entity.Procedure n g) = none_follows (breaks 3 m.pos) (breaks 3 m.pos) refl
-  behind_follows m x (entity.Forward n g) = none_follows (breaks 3 m.pos) (breaks 3 m.pos) refl
-  behind_follows m x (entity.Predeclared f) = none_follows (breaks 3 m.pos) (breaks 3 m.pos) refl
-  behind_follows m x entity.LeftOut = none_follows (breaks 3 m.pos) (breaks 3 m.pos) refl
-  behind_follows m x entity.Unsound = none_follows (breaks 3 m.pos) (breaks 3 m.pos) refl
+  behind_follows m x (entity.Variable w t) = none_follows (breaks rule.WrongKind m.pos) (breaks rule.WrongKind m.pos) refl
+  behind_follows m x (entity.TypeName t) = none_follows (breaks rule.WrongKind m.pos) (breaks rule.WrongKind m.pos) refl
+  behind_follows m x (entity.Constant c) = none_follows (breaks rule.WrongKind m.pos) (breaks rule.WrongKind m.pos) refl
+  behind_follows m x (entity.Procedure n g) = none_follows (breaks rule.WrongKind m.pos) (breaks rule.WrongKind m.pos) refl
+  behind_follows m x (entity.Forward n g) = none_follows (breaks rule.WrongKind m.pos) (breaks rule.WrongKind m.pos) refl
+  behind_follows m x (entity.Predeclared f) = none_follows (breaks rule.WrongKind m.pos) (breaks rule.WrongKind m.pos) refl
+  behind_follows m x entity.LeftOut = none_follows (breaks rule.WrongKind m.pos) (breaks rule.WrongKind m.pos) refl
+  behind_follows m x entity.Unsound = none_follows (breaks rule.WrongKind m.pos) (breaks rule.WrongKind m.pos) refl
 
   of_entity_follows : (at : Pos) (e : Entity) → EntityIn P e → TF (type_of_entity at e) (type_of_entity at e)
   of_entity_follows at (entity.TypeName t) h = record { keeps = λ y k said. subst (IsIn P) (some_same k) h; same = λ y k said m. (tt, refl) }
-  of_entity_follows at (entity.Module n) h = none_follows (breaks 3 at) (breaks 3 at) refl
-  of_entity_follows at (entity.Variable w t) h = none_follows (breaks 3 at) (breaks 3 at) refl
-  of_entity_follows at (entity.Constant c) h = none_follows (breaks 3 at) (breaks 3 at) refl
-  of_entity_follows at (entity.Procedure n g) h = none_follows (breaks 3 at) (breaks 3 at) refl
-  of_entity_follows at (entity.Forward n g) h = none_follows (breaks 3 at) (breaks 3 at) refl
-  of_entity_follows at (entity.Predeclared f) h = none_follows (breaks 3 at) (breaks 3 at) refl
-  of_entity_follows at entity.LeftOut h = none_follows (breaks 3 at) (breaks 3 at) refl
-  of_entity_follows at entity.Unsound h = none_follows (breaks 3 at) (breaks 3 at) refl
+  of_entity_follows at (entity.Module n) h = none_follows (breaks rule.WrongKind at) (breaks rule.WrongKind at) refl
+  of_entity_follows at (entity.Variable w t) h = none_follows (breaks rule.WrongKind at) (breaks rule.WrongKind at) refl
+  of_entity_follows at (entity.Constant c) h = none_follows (breaks rule.WrongKind at) (breaks rule.WrongKind at) refl
+  of_entity_follows at (entity.Procedure n g) h = none_follows (breaks rule.WrongKind at) (breaks rule.WrongKind at) refl
+  of_entity_follows at (entity.Forward n g) h = none_follows (breaks rule.WrongKind at) (breaks rule.WrongKind at) refl
+  of_entity_follows at (entity.Predeclared f) h = none_follows (breaks rule.WrongKind at) (breaks rule.WrongKind at) refl
+  of_entity_follows at entity.LeftOut h = none_follows (breaks rule.WrongKind at) (breaks rule.WrongKind at) refl
+  of_entity_follows at entity.Unsound h = none_follows (breaks rule.WrongKind at) (breaks rule.WrongKind at) refl
 
   other_follows : (x : Ident) (k : Known) (e : Entity) (f g : Entity → Judged TypeRef) → EntityIn P e → ((e : Entity) → EntityIn P e → TF (f e) (g e)) → TF (entity_known u x.pos k.scope e ▷ f) (entity_known v x.pos k.scope e ▷ g)
   other_follows x k e f g h i = follows_then P (EntityIn P) (λ x. Unit {0}) (IsIn P) (λ x. Unit {0}) (Unit {0}) (entity_known u x.pos k.scope e) (entity_known v x.pos k.scope e) f g (entity_follows x.pos k.scope e h) i
 
   is_follows : (x : Ident) (k : Known) (e : Entity) (f g : Entity → Judged TypeRef) → EntityIn P e → ((e : Entity) → EntityIn P e → TF (f e) (g e)) → TF (unless_variable_is u x k e f) (unless_variable_is v x k e g)
-  is_follows x k (entity.Variable w t) f g h i = none_follows (breaks 3 x.pos) (breaks 3 x.pos) refl
+  is_follows x k (entity.Variable w t) f g h i = none_follows (breaks rule.WrongKind x.pos) (breaks rule.WrongKind x.pos) refl
   is_follows x k (entity.TypeName t) f g h i = other_follows x k (entity.TypeName t) f g h i
   is_follows x k (entity.Module n) f g h i = other_follows x k (entity.Module n) f g h i
   is_follows x k (entity.Constant c) f g h i = other_follows x k (entity.Constant c) f g h i
@@ -182,7 +183,7 @@ module _ (P : QName → Type 0) (u : Around) (s : QName → Option Desc) (a : Ag
   unless_follows x f g i = by (find_name u.known x.name) refl
     where
       by : (o : Option Known) → find_name u.known x.name ≡ o → TF (unless_variable u x o f) (unless_variable v x o g)
-      by None e = none_follows (breaks 2 x.pos) (breaks 2 x.pos) refl
+      by None e = none_follows (breaks rule.NotDeclared x.pos) (breaks rule.NotDeclared x.pos) refl
       by (Some k) e = is_follows x k k.what f g (known_in x.name k e) i
 
   type_by_follows : (o : Option Ident) (x : Ident) → TF (type_by u o x) (type_by v o x)

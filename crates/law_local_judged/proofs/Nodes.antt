@@ -27,6 +27,8 @@ use Rattle.ob_rules.specs.declared.meant.Where.TheVariants.{InExpression}
 use Rattle.ob_rules.specs.declared.values.Place.{Place}
 use Rattle.ob_rules.specs.declared.values.Valued.{Valued}
 use Rattle.ob_rules.specs.declared.values.Valued.TheVariants as valued
+use Rattle.ob_rules.specs.declared.broken.Rule.TheVariants as rule
+use Rattle.ob_rules.specs.declared.broken.Rule.{Rule}
 use Rattle.ob_rules.specs.Judged.{Judged, sound, silent, breaks, both, also, wants, made, each_sound, ◌▷◌}
 use Rattle.ob_rules.specs.Shapes.{Map, pointed_record}
 use Rattle.ob_rules.specs.Names.{Around, map_of, type_named}
@@ -62,7 +64,7 @@ module _ (P : QName → Type 0) where
 
   procedure_there : (b : Bool) (at : Pos) (q : QName) (g : Signature) → VF (Unit {0}) (procedure_value b at q (computed (e.Procedure q g) (kind.Procedure g))) (procedure_value b at q (computed (e.Procedure q g) (kind.Procedure g)))
   procedure_there true at q g = follows_sound P (ValuedTied P) (ValuedIn P) (Unit {0}) (computed (e.Procedure q g) (kind.Procedure g)) (λ m. procedure_mentions P q g m) (λ m. tt)
-  procedure_there false at q g = value_none (Unit {0}) (breaks 39 at) (breaks 39 at) refl
+  procedure_there false at q g = value_none (Unit {0}) (breaks rule.UnfitProcedureValue at) (breaks rule.UnfitProcedureValue at) refl
 
   pub value_meant_follows : (at : Pos) (m : Meant) → MeantTied P m → VF (MeantIn P m) (value_meant at m) (value_meant at m)
   value_meant_follows at (means.Place p) t = follows_sound P (ValuedTied P) (ValuedIn P) (PlaceIn P p) (value_at p) t (λ m. m)
@@ -70,9 +72,9 @@ module _ (P : QName → Type 0) where
   value_meant_follows at (means.Procedure q g) t = procedure_there (is_value q) at q g
   value_meant_follows at (means.Call x) t = follows_sound P (ValuedTied P) (ValuedIn P) (ValuedIn P x) x t (λ m. m)
   value_meant_follows at (means.Statement y) t = value_none (MeantIn P (means.Statement y)) silent silent refl
-  value_meant_follows at (means.Bound c) t = value_none (PlaceIn P c.receiver) (breaks 39 at) (breaks 39 at) refl
-  value_meant_follows at (means.Out o) t = value_none (Unit {0}) (breaks 39 at) (breaks 39 at) refl
-  value_meant_follows at (means.Predeclared f) t = value_none (Unit {0}) (breaks 39 at) (breaks 39 at) refl
+  value_meant_follows at (means.Bound c) t = value_none (PlaceIn P c.receiver) (breaks rule.UnfitProcedureValue at) (breaks rule.UnfitProcedureValue at) refl
+  value_meant_follows at (means.Out o) t = value_none (Unit {0}) (breaks rule.UnfitProcedureValue at) (breaks rule.UnfitProcedureValue at) refl
+  value_meant_follows at (means.Predeclared f) t = value_none (Unit {0}) (breaks rule.UnfitProcedureValue at) (breaks rule.UnfitProcedureValue at) refl
 
   bracketed_tied : (x : Valued) → ValuedTied P x → ValuedTied P (bracketed x)
   bracketed_tied (valued.Place p) t = t
@@ -136,7 +138,7 @@ module _ (P : QName → Type 0) where
 
     pub test_follows : (at : Pos) (x : Valued) (t : TypeRef) → ValuedTied P x → IsIn P t → VF (ValuedIn P x × Unit {0}) (test f at x t) (test g at x t)
     test_follows at x t tied i =
-        follows_found P (ValuedTied P) (ValuedIn P) (ValuedIn P x × Unit {0}) 23 at (test_of f x t (record_if f (type_in (type x)))) (test_of g x t (record_if g (type_in (type x))))
+        follows_found P (ValuedTied P) (ValuedIn P) (ValuedIn P x × Unit {0}) rule.UnfitTypeTest at (test_of f x t (record_if f (type_in (type x)))) (test_of g x t (record_if g (type_in (type x))))
         (λ y e. (of_tests x t (record_if f (type_in (type x))) y e).0)
         (λ y e m. let k = (of_tests x t (record_if f (type_in (type x))) y e).1 m in ((k, tt), test_same x t (tied k) i))
 
@@ -155,14 +157,14 @@ module _ (P : QName → Type 0) where
     pub phrase_follows : (start : Pos) (f : Around → Judged Valued) → VF (Unit {0}) (f u) (f v) → Ph (phrase start f)
     phrase_follows start f h = record { value = h; meant = tt; named = λ x e said. refl; meant_named = tt }
 
-    wants_constant : (b : Bool) (rule : ℕ) (at : Pos) (c : Literal) → VF (Unit {0}) (wants b rule at (constant c)) (wants b rule at (constant c))
-    wants_constant b rule at c = follows_wants P (ValuedTied P) (ValuedIn P) (Unit {0}) b b rule at (constant c) (λ m. constant_kind P c) (λ m. tt) (λ r. refl)
+    wants_constant : (b : Bool) (which : Rule) (at : Pos) (c : Literal) → VF (Unit {0}) (wants b which at (constant c)) (wants b which at (constant c))
+    wants_constant b which at c = follows_wants P (ValuedTied P) (ValuedIn P) (Unit {0}) b b which at (constant c) (λ m. constant_kind P c) (λ m. tt) (λ r. refl)
 
     pub integer_follows : (at : Pos) (n : ℕ) → Ph (phrase at (λ u. integer_literal at n))
-    integer_follows at n = phrase_follows at (λ u. integer_literal at n) (wants_constant (nat_le n 2147483647) 9 at (literal.Int (pos n)))
+    integer_follows at n = phrase_follows at (λ u. integer_literal at n) (wants_constant (nat_le n 2147483647) rule.LiteralTooLarge at (literal.Int (pos n)))
 
     pub char_follows : (at : Pos) (n : ℕ) → Ph (phrase at (λ u. char_literal at n))
-    char_follows at n = phrase_follows at (λ u. char_literal at n) (wants_constant (nat_le n 255) 9 at (literal.Char n))
+    char_follows at n = phrase_follows at (λ u. char_literal at n) (wants_constant (nat_le n 255) rule.LiteralTooLarge at (literal.Char n))
 
     pub constant_phrase : (at : Pos) (c : Literal) → Ph (phrase at (λ u. sound (constant c)))
     constant_phrase at c = phrase_follows at (λ u. sound (constant c)) (constant_follows P (Unit {0}) c tt)
@@ -233,8 +235,8 @@ module _ (P : QName → Type 0) where
 
     untestable_follows : (at : Pos) (i j : Judged Valued) → VF (Unit {0}) i j → VF (Unit {0}) (untestable (map_of u) at i) (untestable (map_of v) at j)
     untestable_follows at i j h =
-        follows_then P (ValuedTied P) (ValuedIn P) (ValuedTied P) (ValuedIn P) (Unit {0}) i j (λ x. wants (testable (map_of u) x) 23 at x) (λ x. wants (testable (map_of v) x) 23 at x) h
-        (λ x t. follows_wants P (ValuedTied P) (ValuedIn P) (ValuedIn P x) (testable (map_of u) x) (testable (map_of v) x) 23 at x t (λ m. m) (λ r. testable_same (map_of u) (map_of v) maps x (t r)))
+        follows_then P (ValuedTied P) (ValuedIn P) (ValuedTied P) (ValuedIn P) (Unit {0}) i j (λ x. wants (testable (map_of u) x) rule.UnfitTypeTest at x) (λ x. wants (testable (map_of v) x) rule.UnfitTypeTest at x) h
+        (λ x t. follows_wants P (ValuedTied P) (ValuedIn P) (ValuedIn P x) (testable (map_of u) x) (testable (map_of v) x) rule.UnfitTypeTest at x t (λ m. m) (λ r. testable_same (map_of u) (map_of v) maps x (t r)))
 
     type_test_follows : (at : Pos) (i j : Judged Valued) (q : Qualident) → VF (Unit {0}) i j → VF (Unit {0}) (type_test u at i q) (type_test v at j q)
     type_test_follows at i j q h =
@@ -244,13 +246,13 @@ module _ (P : QName → Type 0) where
         (follows_both P (ValuedTied P) (ValuedIn P) (IsIn P) (λ t. Unit {0}) (Unit {0}) (Unit {0}) (untestable (map_of u) at i) (untestable (map_of v) at j) (type_named u q) (type_named v q) (untestable_follows at i j h) (type_named_follows P u s a q))
         (λ p t. test_follows (map_of u) (map_of v) maps at p.0 p.1 t.0 t.1))
 
-    other_none : (at : Pos) (b : Bool) → (also {A = Valued} b 23 at (breaks 21 at)).node ≡ None
+    other_none : (at : Pos) (b : Bool) → (also {A = Valued} b rule.UnfitTypeTest at (breaks rule.UnfitOperands at)).node ≡ None
     other_none at true = refl
     other_none at false = refl
 
     tested : (at : Pos) (i j : Judged Valued) (r : Phrase) (q : Option Qualident) → VF (Unit {0}) i j → Ph r → VF (Unit {0}) (is_test u at i r q) (is_test v at j r q)
     tested at i j r (Some q) h k = type_test_follows at i j q h
-    tested at i j r None h k = value_none (Unit {0}) (is_test u at i r None) (is_test v at j r None) (none_then (both i (r.value u)) (λ p. also (not (testable (map_of u) p.0)) 23 at (breaks 21 at)) (λ p. other_none at (not (testable (map_of u) p.0))))
+    tested at i j r None h k = value_none (Unit {0}) (is_test u at i r None) (is_test v at j r None) (none_then (both i (r.value u)) (λ p. also (not (testable (map_of u) p.0)) rule.UnfitTypeTest at (breaks rule.UnfitOperands at)) (λ p. other_none at (not (testable (map_of u) p.0))))
 
     compared : (o : Relation) (at : Pos) (i j : Judged Valued) (r : Phrase) → VF (Unit {0}) i j → Ph r → VF (Unit {0}) (both i (r.value u) ▷ λ p. related (map_of u) o at p.0 p.1) (both j (r.value v) ▷ λ p. related (map_of v) o at p.0 p.1)
     compared o at i j r h k = two_follow i j (r.value u) (r.value v) (λ p. related (map_of u) o at p.0 p.1) (λ p. related (map_of v) o at p.0 p.1) h k.value (λ p t. related_follows P (map_of u) (map_of v) maps o at p.0 p.1 t.0 t.1)

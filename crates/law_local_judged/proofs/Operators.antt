@@ -1,5 +1,5 @@
 -- Operators over values, with other interfaces around.
-use Rattle.std.proofs.Common.{◌≡◌, refl, sym, subst, ℕ, List, [], ◌∷◌, Option, Some, None, Bool, true, false}
+use Rattle.std.proofs.Common.{◌≡◌, refl, sym, subst, List, [], ◌∷◌, Option, Some, None, Bool, true, false}
 use Rattle.std.specs.Prelude.{◌&&◌}
 use Rattle.std.specs.List.{AllByRecursion}
 use Rattle.ob_tree.specs.declared.pos.Pos.{Pos}
@@ -27,6 +27,8 @@ use Rattle.ob_types.specs.TypedKinds.{of_basic, unary_type, binary_type}
 use Rattle.ob_rules.specs.declared.meant.ElementOf.{ElementOf}
 use Rattle.ob_rules.specs.declared.values.Valued.{Valued}
 use Rattle.ob_rules.specs.declared.values.Valued.TheVariants as valued
+use Rattle.ob_rules.specs.declared.broken.Rule.TheVariants as rule
+use Rattle.ob_rules.specs.declared.broken.Rule.{Rule}
 use Rattle.ob_rules.specs.Judged.{Judged, sound, breaks, both, each_sound}
 use Rattle.ob_rules.specs.Shapes.{Map}
 use Rattle.ob_rules.specs.Constants.{fold_one, fold_two, fold_texts, fold_logical}
@@ -50,14 +52,14 @@ module _ (P : QName → Type 0) where
   abbrev VF : Type 0 → Judged Valued → Judged Valued → Type 0
   VF R i j = Follows P (ValuedTied P) (ValuedIn P) R i j
 
-  pub breaks_follows : (R : Type 0) (rule : ℕ) (at : Pos) (j : Judged Valued) → VF R (breaks rule at) j
-  breaks_follows R rule at j = follows_none P (ValuedTied P) (ValuedIn P) R (breaks rule at) j refl
+  pub breaks_follows : (R : Type 0) (which : Rule) (at : Pos) (j : Judged Valued) → VF R (breaks which at) j
+  breaks_follows R which at j = follows_none P (ValuedTied P) (ValuedIn P) R (breaks which at) j refl
 
   pub constant_follows : (R : Type 0) (c : Value) → R → VF R (sound (constant c)) (sound (constant c))
   constant_follows R c r = follows_sound P (ValuedTied P) (ValuedIn P) R (constant c) (λ m. constant_kind P c) (λ m. r)
 
   folded_follows : (R : Type 0) (at : Pos) (o : Option Value) → R → VF R (folded at o) (folded at o)
-  folded_follows R at None r = breaks_follows R 11 at (breaks 11 at)
+  folded_follows R at None r = breaks_follows R rule.ConstantOutOfRange at (breaks rule.ConstantOutOfRange at)
   folded_follows R at (Some c) r = constant_follows R c r
 
   pub monadic_follows : (op : Unary) (at : Pos) (x : Valued) → VF (VM x) (monadic op at x) (monadic op at x)
@@ -86,10 +88,10 @@ module _ (P : QName → Type 0) where
 
   connected_follows : (t : Bool) (op : Connective) (at : Pos) (a b : Valued) → VF (VM a × VM b) (connected t op at a b) (connected t op at a b)
   connected_follows true op at a b = logical_follows op at a b
-  connected_follows false op at a b = breaks_follows (VM a × VM b) 21 at (breaks 21 at)
+  connected_follows false op at a b = breaks_follows (VM a × VM b) rule.UnfitOperands at (breaks rule.UnfitOperands at)
 
   fit_follows : (o : Option Binary) (at : Pos) (a b : Valued) → VF (VM a × VM b) (if_fit o at (λ o. dyadic o at a b)) (if_fit o at (λ o. dyadic o at a b))
-  fit_follows None at a b = breaks_follows (VM a × VM b) 21 at (breaks 21 at)
+  fit_follows None at a b = breaks_follows (VM a × VM b) rule.UnfitOperands at (breaks rule.UnfitOperands at)
   fit_follows (Some o) at a b = dyadic_follows o at a b
 
   combined_self : (map : Map) (o : Operator) (at : Pos) (a b : Valued) → VF (VM a × VM b) (combined map o at a b) (combined map o at a b)
@@ -104,7 +106,7 @@ module _ (P : QName → Type 0) where
 
   negated_follows : (t : Bool) (at : Pos) (x : Valued) → VF (VM x) (negated t at x) (negated t at x)
   negated_follows true at x = monadic_follows unary.Not at x
-  negated_follows false at x = breaks_follows (VM x) 21 at (breaks 21 at)
+  negated_follows false at x = breaks_follows (VM x) rule.UnfitOperands at (breaks rule.UnfitOperands at)
 
   pub only_tied : (x : Valued) → VT x → VT (only_value x)
   only_tied (valued.Constant c) t = t
@@ -118,19 +120,19 @@ module _ (P : QName → Type 0) where
 
   signed_self : (s : Sign) (o : Option Width) (t : Bool) (at : Pos) (x : Valued) → VT x → VF (VM x) (signed_as s o t at x) (signed_as s o t at x)
   signed_self sign.Plus (Some w) t at x h = follows_sound P (ValuedTied P) (ValuedIn P) (VM x) (only_value x) (only_tied x h) (λ m. only_mentions x m)
-  signed_self sign.Plus None t at x h = breaks_follows (VM x) 21 at (breaks 21 at)
+  signed_self sign.Plus None t at x h = breaks_follows (VM x) rule.UnfitOperands at (breaks rule.UnfitOperands at)
   signed_self sign.Minus (Some w) t at x h = monadic_follows (unary.Negate w) at x
   signed_self sign.Minus None true at x h = monadic_follows unary.Complement at x
-  signed_self sign.Minus None false at x h = breaks_follows (VM x) 21 at (breaks 21 at)
+  signed_self sign.Minus None false at x h = breaks_follows (VM x) rule.UnfitOperands at (breaks rule.UnfitOperands at)
 
   compare_as_self : (o : Option Compared) (t : Bool) (r : Comparison) (at : Pos) (a b : Valued) → VF (VM a × VM b) (compare_as o t r at a b) (compare_as o t r at a b)
   compare_as_self (Some c) t r at a b = dyadic_follows (binary.Compare r c) at a b
   compare_as_self None true r at a b = texts_follow r at a b
-  compare_as_self None false r at a b = breaks_follows (VM a × VM b) 21 at (breaks 21 at)
+  compare_as_self None false r at a b = breaks_follows (VM a × VM b) rule.UnfitOperands at (breaks rule.UnfitOperands at)
 
   contained_self : (t : Bool) (at : Pos) (a b : Valued) → VF (VM a × VM b) (contained t at a b) (contained t at a b)
   contained_self true at a b = dyadic_follows binary.In at a b
-  contained_self false at a b = breaks_follows (VM a × VM b) 21 at (breaks 21 at)
+  contained_self false at a b = breaks_follows (VM a × VM b) rule.UnfitOperands at (breaks rule.UnfitOperands at)
 
   compare_self : (map : Map) (o : Option Comparison) (at : Pos) (a b : Valued) → VF (VM a × VM b) (compare map o at a b) (compare map o at a b)
   compare_self map (Some r) at a b = compare_as_self (compared_as map (is_equality r) a b) (is_text map a && is_text map b) r at a b
@@ -141,14 +143,14 @@ module _ (P : QName → Type 0) where
   abbrev EF : Type 0 → Judged ElementOf → Judged ElementOf → Type 0
   EF R i j = Follows P (λ x. Unit {0}) (ElementIn P) R i j
 
-  element_breaks : (R : Type 0) (at : Pos) (j : Judged ElementOf) → EF R (breaks 11 at) j
-  element_breaks R at j = follows_none P (λ x. Unit {0}) (ElementIn P) R (breaks 11 at) j refl
+  element_breaks : (R : Type 0) (at : Pos) (j : Judged ElementOf) → EF R (breaks rule.ConstantOutOfRange at) j
+  element_breaks R at j = follows_none P (λ x. Unit {0}) (ElementIn P) R (breaks rule.ConstantOutOfRange at) j refl
 
-  element_unfit : (R : Type 0) (at : Pos) (j : Judged ElementOf) → EF R (breaks 21 at) j
-  element_unfit R at j = follows_none P (λ x. Unit {0}) (ElementIn P) R (breaks 21 at) j refl
+  element_unfit : (R : Type 0) (at : Pos) (j : Judged ElementOf) → EF R (breaks rule.UnfitOperands at) j
+  element_unfit R at j = follows_none P (λ x. Unit {0}) (ElementIn P) R (breaks rule.UnfitOperands at) j refl
 
   element_folds : (R : Type 0) (at : Pos) (t : TypedExpr) (o : Option Value) → R → EF R (element_folded at t o) (element_folded at t o)
-  element_folds R at t None r = element_breaks R at (breaks 11 at)
+  element_folds R at t None r = element_breaks R at (breaks rule.ConstantOutOfRange at)
   element_folds R at t (Some c) r = follows_sound P (λ x. Unit {0}) (ElementIn P) R (element_as at t (Some c)) tt (λ m. r)
 
   element_stays : (R : Type 0) (at : Pos) (t : TypedExpr) → (ExprIn P t → R) → EF R (sound (element_as at t None)) (sound (element_as at t None))
@@ -171,11 +173,11 @@ module _ (P : QName → Type 0) where
 
   integer_self : (t : Bool) (at : Pos) (a : Valued) → EF (VM a) (if_integer t at a) (if_integer t at a)
   integer_self true at a = single_self at a
-  integer_self false at a = element_unfit (VM a) at (breaks 21 at)
+  integer_self false at a = element_unfit (VM a) at (breaks rule.UnfitOperands at)
 
   integers_self : (t : Bool) (at : Pos) (a b : Valued) → EF (VM a × VM b) (if_integers t at a b) (if_integers t at a b)
   integers_self true at a b = ranged_self at a b
-  integers_self false at a b = element_unfit (VM a × VM b) at (breaks 21 at)
+  integers_self false at a b = element_unfit (VM a × VM b) at (breaks rule.UnfitOperands at)
 
   -- the value, where there is one
   abbrev pub OM : Option Valued → Type 0

@@ -15,6 +15,7 @@ use Rattle.ob_types.specs.Maps.{listed, signature_types}
 use Rattle.ob_rules.specs.declared.entity.Entity.{Entity}
 use Rattle.ob_rules.specs.declared.entity.Entity.TheVariants as entity
 use Rattle.ob_rules.specs.declared.entity.Known.{Known}
+use Rattle.ob_rules.specs.declared.broken.Rule.TheVariants as rule
 use Rattle.ob_rules.specs.Judged.{Judged, sound, both, made, noted, if_sound, ◌▷◌}
 use Rattle.ob_rules.specs.Shapes.{is_structured, passing_of}
 use Rattle.ob_rules.specs.Names.{Around, map_of, type_named}
@@ -155,7 +156,7 @@ module _ (P : QName → Type 0) where
     result_follows u a (Some q) =
         let maps = maps_agree P u s a in
         follows_then P (IsIn P) (λ t. Unit {0}) (TypeIn P) (λ t. Unit {0}) (Unit {0}) (type_named u q) (type_named (beside u s) q) (result_fits u (first_of q)) (result_fits (beside u s) (first_of q)) (type_named_follows P u s a q)
-        (λ t h. follows_unless P (TypeIn P) (λ t. Unit {0}) (Unit {0}) (is_structured (map_of u) t) (is_structured (map_of (beside u s)) t) 17 (first_of q) (Some t) h (λ m. tt)
+        (λ t h. follows_unless P (TypeIn P) (λ t. Unit {0}) (Unit {0}) (is_structured (map_of u) t) (is_structured (map_of (beside u s)) t) rule.StructuredResult (first_of q) (Some t) h (λ m. tt)
         (λ r. two (λ x y. x || y) (is_array_same P (map_of u) (map_of (beside u s)) maps t h) (is_record_same P (map_of u) (map_of (beside u s)) maps t h)))
 
     pub parameters_follow : (u : Around) → Agrees P u s → OwnIn P u.unit → (name : List ℕ) (p : WrittenParameters) → AllByRecursion (λ x. WrittenFollows P x.node) p.sections → SectionsFollow (parameters_in u name p) (parameters_in (beside u s) name p)

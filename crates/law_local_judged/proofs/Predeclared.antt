@@ -16,6 +16,7 @@ use Rattle.ob_rules.specs.declared.meant.Meant.{Meant}
 use Rattle.ob_rules.specs.declared.meant.Meant.TheVariants as means
 use Rattle.ob_rules.specs.declared.meant.Where.{Where}
 use Rattle.ob_rules.specs.declared.values.Valued.{Valued}
+use Rattle.ob_rules.specs.declared.broken.Rule.TheVariants as rule
 use Rattle.ob_rules.specs.Judged.{Judged, sound, breaks, also, wants, each_sound, both, ◌▷◌}
 use Rattle.ob_rules.specs.Names.{Around, map_of, type_named}
 use Rattle.ob_rules.specs.Values.{value_at, type, constant_in}
@@ -46,11 +47,11 @@ module _ (P : QName → Type 0) where
   pub meant_none : (R : Type 0) (i j : Judged Meant) → i.node ≡ None → MF R i j
   meant_none R i j e = follows_none P (MeantTied P) (MeantIn P) R i j e
 
-  changed_breaks : (R : Type 0) (start : Pos) → VF R (breaks 26 start) (breaks 26 start)
-  changed_breaks R start = follows_none P (ValuedTied P) (ValuedIn P) R (breaks 26 start) (breaks 26 start) refl
+  changed_breaks : (R : Type 0) (start : Pos) → VF R (breaks rule.NotChangeable start) (breaks rule.NotChangeable start)
+  changed_breaks R start = follows_none P (ValuedTied P) (ValuedIn P) R (breaks rule.NotChangeable start) (breaks rule.NotChangeable start) refl
 
   changed_meant_follows : (start : Pos) (m : Meant) → MeantTied P m → VF (MeantIn P m) (changed_meant start m) (changed_meant start m)
-  changed_meant_follows start (means.Place p) h = follows_unless P (ValuedTied P) (ValuedIn P) (PlaceIn P p) p.read_only p.read_only 26 start (value_at p) h (λ m. m) (λ r. refl)
+  changed_meant_follows start (means.Place p) h = follows_unless P (ValuedTied P) (ValuedIn P) (PlaceIn P p) p.read_only p.read_only rule.NotChangeable start (value_at p) h (λ m. m) (λ r. refl)
   changed_meant_follows start (means.Call x) h = follows_sound P (ValuedTied P) (ValuedIn P) (ValuedIn P x) (only_value x) (only_tied P x h) (λ m. only_mentions P x m)
   changed_meant_follows start (means.Constant c) h = changed_breaks (Unit {0}) start
   changed_meant_follows start (means.Procedure q s) h = changed_breaks (Unit {0}) start
@@ -86,8 +87,8 @@ module _ (P : QName → Type 0) where
     parameter_follows asked.Value p h = h.value
     parameter_follows asked.Changed p h = changed_follows p p.meant h h.meant
     parameter_follows asked.Constant p h =
-        follows_then P (ValuedTied P) (ValuedIn P) (ValuedTied P) (ValuedIn P) (Unit {0}) (p.value u) (p.value v) (λ x. wants (is_some (constant_in x)) 10 p.start x) (λ x. wants (is_some (constant_in x)) 10 p.start x) h.value
-        (λ x t. follows_wants P (ValuedTied P) (ValuedIn P) (ValuedIn P x) (is_some (constant_in x)) (is_some (constant_in x)) 10 p.start x t (λ m. m) (λ r. refl))
+        follows_then P (ValuedTied P) (ValuedIn P) (ValuedTied P) (ValuedIn P) (Unit {0}) (p.value u) (p.value v) (λ x. wants (is_some (constant_in x)) rule.NotConstant p.start x) (λ x. wants (is_some (constant_in x)) rule.NotConstant p.start x) h.value
+        (λ x t. follows_wants P (ValuedTied P) (ValuedIn P) (ValuedIn P x) (is_some (constant_in x)) (is_some (constant_in x)) rule.NotConstant p.start x t (λ m. m) (λ r. refl))
 
     values_follow : (ps : List Phrase) → Phs ps → Both P (ValuedTied P) (ValuedIn P) (values u ps) (values v ps)
     values_follow [] h = tt
@@ -103,7 +104,7 @@ module _ (P : QName → Type 0) where
 
     fit_follows : (w : Where) (f : Predeclared) (at : Pos) (xs : List Valued) → AllByRecursion (ValuedTied P) xs → MF (AllByRecursion (ValuedIn P) xs) (call_fit u w f at xs) (call_fit v w f at xs)
     fit_follows w f at xs t =
-        follows_also P (MeantTied P) (MeantIn P) (AllByRecursion (ValuedIn P) xs) (misplaced w (is_function f)) (misplaced w (is_function f)) 27 at (if_fit at (fit (map_of u) f at xs)) (if_fit at (fit (map_of v) f at xs))
+        follows_also P (MeantTied P) (MeantIn P) (AllByRecursion (ValuedIn P) xs) (misplaced w (is_function f)) (misplaced w (is_function f)) rule.MisplacedCall at (if_fit at (fit (map_of u) f at xs)) (if_fit at (fit (map_of v) f at xs))
         (follows_to P (MeantTied P) (MeantIn P) (AllByRecursion (ValuedIn P) xs) (if_fit at (fit (map_of u) f at xs)) (if_fit at (fit (map_of v) f at xs)) (fit_self P at (map_of u) f xs)
         (λ r. ap (if_fit at) (fit_same P (map_of u) (map_of v) maps at f xs (kinds_in xs t r)))) (λ r. refl)
 
@@ -115,52 +116,52 @@ module _ (P : QName → Type 0) where
     -- ---- MAX and MIN
 
     extreme_self : (max : Bool) (at : Pos) (t : TypeRef) (o : Option Basic) → MF (Unit {0}) (extreme_of max at (Some t) o) (extreme_of max at (Some t) o)
-    extreme_self max at t None = meant_none (Unit {0}) (breaks 28 at) (breaks 28 at) refl
+    extreme_self max at t None = meant_none (Unit {0}) (breaks rule.UnfitPredeclaredParameters at) (breaks rule.UnfitPredeclaredParameters at) refl
     extreme_self max at t (Some b) = record { keeps = λ x k said. subst (MeantTied P) (some_same k) (λ m. constant_kind P (extreme max b)); same = λ x k said m. (tt, refl) }
 
     abbrev TypeThere : Option TypeRef → Type 0
     TypeThere None = Unit {0}
     TypeThere (Some t) = IsIn P t
 
-    extreme_follows : (max : Bool) (w : Where) (at : Pos) (o : Option TypeRef) → TypeThere o → MF (Unit {0}) (also (misplaced w true) 27 at (extreme_of max at o (basic_if (map_of u) o))) (also (misplaced w true) 27 at (extreme_of max at o (basic_if (map_of v) o)))
-    extreme_follows max w at None h = follows_also P (MeantTied P) (MeantIn P) (Unit {0}) (misplaced w true) (misplaced w true) 27 at (breaks 28 at) (breaks 28 at) (meant_none (Unit {0}) (breaks 28 at) (breaks 28 at) refl) (λ r. refl)
+    extreme_follows : (max : Bool) (w : Where) (at : Pos) (o : Option TypeRef) → TypeThere o → MF (Unit {0}) (also (misplaced w true) rule.MisplacedCall at (extreme_of max at o (basic_if (map_of u) o))) (also (misplaced w true) rule.MisplacedCall at (extreme_of max at o (basic_if (map_of v) o)))
+    extreme_follows max w at None h = follows_also P (MeantTied P) (MeantIn P) (Unit {0}) (misplaced w true) (misplaced w true) rule.MisplacedCall at (breaks rule.UnfitPredeclaredParameters at) (breaks rule.UnfitPredeclaredParameters at) (meant_none (Unit {0}) (breaks rule.UnfitPredeclaredParameters at) (breaks rule.UnfitPredeclaredParameters at) refl) (λ r. refl)
     extreme_follows max w at (Some t) h =
-        follows_also P (MeantTied P) (MeantIn P) (Unit {0}) (misplaced w true) (misplaced w true) 27 at (extreme_of max at (Some t) (basic_if (map_of u) (Some t))) (extreme_of max at (Some t) (basic_if (map_of v) (Some t)))
+        follows_also P (MeantTied P) (MeantIn P) (Unit {0}) (misplaced w true) (misplaced w true) rule.MisplacedCall at (extreme_of max at (Some t) (basic_if (map_of u) (Some t))) (extreme_of max at (Some t) (basic_if (map_of v) (Some t)))
         (follows_to P (MeantTied P) (MeantIn P) (Unit {0}) (extreme_of max at (Some t) (basic_if (map_of u) (Some t))) (extreme_of max at (Some t) (basic_if (map_of v) (Some t))) (extreme_self max at t (basic_if (map_of u) (Some t)))
         (λ r. ap (extreme_of max at (Some t)) (target_basics P (map_of u) (map_of v) maps t h))) (λ r. refl)
 
     type_follows : (p : Phrase) (q : Qualident) → Follows P TypeThere (λ x. Unit {0}) (Unit {0}) (type_parameter u p (Some q)) (type_parameter v p (Some q))
     type_follows p q = follows_made P (IsIn P) (λ x. Unit {0}) TypeThere (λ x. Unit {0}) (Unit {0}) (λ t. Some t) (type_named u q) (type_named v q) (type_named_follows P u s a q) (λ t k. k) (λ t k m. tt)
 
-    misfit : (w : Where) (at : Pos) → (also {A = Meant} (misplaced w true) 27 at (breaks 28 at)).node ≡ None
+    misfit : (w : Where) (at : Pos) → (also {A = Meant} (misplaced w true) rule.MisplacedCall at (breaks rule.UnfitPredeclaredParameters at)).node ≡ None
     misfit w at = by (misplaced w true)
       where
-        by : (b : Bool) → (also {A = Meant} b 27 at (breaks 28 at)).node ≡ None
+        by : (b : Bool) → (also {A = Meant} b rule.MisplacedCall at (breaks rule.UnfitPredeclaredParameters at)).node ≡ None
         by true = refl
         by false = refl
 
-    no_extreme : (max : Bool) (w : Where) (at : Pos) (map : Option Basic) → (also (misplaced w true) 27 at (extreme_of max at None map)).node ≡ None
+    no_extreme : (max : Bool) (w : Where) (at : Pos) (map : Option Basic) → (also (misplaced w true) rule.MisplacedCall at (extreme_of max at None map)).node ≡ None
     no_extreme max w at o = by (misplaced w true)
       where
-        by : (b : Bool) → (also b 27 at (extreme_of max at None o)).node ≡ None
+        by : (b : Bool) → (also b rule.MisplacedCall at (extreme_of max at None o)).node ≡ None
         by true = refl
         by false = refl
 
     one_follows : (max : Bool) (w : Where) (at : Pos) (p : Phrase) (o : Option Qualident) → Ph p
-        → MF (Unit {0}) (type_parameter u p o ▷ λ t. also (misplaced w true) 27 at (extreme_of max at t (basic_if (map_of u) t))) (type_parameter v p o ▷ λ t. also (misplaced w true) 27 at (extreme_of max at t (basic_if (map_of v) t)))
+        → MF (Unit {0}) (type_parameter u p o ▷ λ t. also (misplaced w true) rule.MisplacedCall at (extreme_of max at t (basic_if (map_of u) t))) (type_parameter v p o ▷ λ t. also (misplaced w true) rule.MisplacedCall at (extreme_of max at t (basic_if (map_of v) t)))
     one_follows max w at p (Some q) h =
-        follows_then P TypeThere (λ x. Unit {0}) (MeantTied P) (MeantIn P) (Unit {0}) (type_parameter u p (Some q)) (type_parameter v p (Some q)) (λ t. also (misplaced w true) 27 at (extreme_of max at t (basic_if (map_of u) t))) (λ t. also (misplaced w true) 27 at (extreme_of max at t (basic_if (map_of v) t)))
+        follows_then P TypeThere (λ x. Unit {0}) (MeantTied P) (MeantIn P) (Unit {0}) (type_parameter u p (Some q)) (type_parameter v p (Some q)) (λ t. also (misplaced w true) rule.MisplacedCall at (extreme_of max at t (basic_if (map_of u) t))) (λ t. also (misplaced w true) rule.MisplacedCall at (extreme_of max at t (basic_if (map_of v) t)))
         (type_follows p q) (λ t k. extreme_follows max w at t k)
     one_follows max w at p None h =
-        meant_none (Unit {0}) (type_parameter u p None ▷ λ t. also (misplaced w true) 27 at (extreme_of max at t (basic_if (map_of u) t))) (type_parameter v p None ▷ λ t. also (misplaced w true) 27 at (extreme_of max at t (basic_if (map_of v) t)))
-        (twice_none (p.value u) (λ x. None) (λ t. also (misplaced w true) 27 at (extreme_of max at t (basic_if (map_of u) t))) (λ x. no_extreme max w at None))
+        meant_none (Unit {0}) (type_parameter u p None ▷ λ t. also (misplaced w true) rule.MisplacedCall at (extreme_of max at t (basic_if (map_of u) t))) (type_parameter v p None ▷ λ t. also (misplaced w true) rule.MisplacedCall at (extreme_of max at t (basic_if (map_of v) t)))
+        (twice_none (p.value u) (λ x. None) (λ t. also (misplaced w true) rule.MisplacedCall at (extreme_of max at t (basic_if (map_of u) t))) (λ x. no_extreme max w at None))
 
     extreme_call_follows : (max : Bool) (w : Where) (at : Pos) (ps : List Phrase) → Phs ps → MF (Unit {0}) (extreme_call max u w at ps) (extreme_call max v w at ps)
     extreme_call_follows max w at [] h = meant_none (Unit {0}) (extreme_call max u w at []) (extreme_call max v w at []) (misfit w at)
     extreme_call_follows max w at (p ∷ []) h = one_follows max w at p p.name h.0
     extreme_call_follows max w at (p ∷ q ∷ ps) h =
         meant_none (Unit {0}) (extreme_call max u w at (p ∷ q ∷ ps)) (extreme_call max v w at (p ∷ q ∷ ps))
-        (none_then (type_parameter u p p.name) (λ t. each_sound (values u (q ∷ ps)) ▷ λ xs. also (misplaced w true) 27 at (breaks 28 at)) (λ t. none_then (each_sound (values u (q ∷ ps))) (λ xs. also (misplaced w true) 27 at (breaks 28 at)) (λ xs. misfit w at)))
+        (none_then (type_parameter u p p.name) (λ t. each_sound (values u (q ∷ ps)) ▷ λ xs. also (misplaced w true) rule.MisplacedCall at (breaks rule.UnfitPredeclaredParameters at)) (λ t. none_then (each_sound (values u (q ∷ ps))) (λ xs. also (misplaced w true) rule.MisplacedCall at (breaks rule.UnfitPredeclaredParameters at)) (λ xs. misfit w at)))
 
     pub call_predeclared_follows : (w : Where) (at : Pos) (f : Predeclared) (ps : List Phrase) → Phs ps → MF (Unit {0}) (call_predeclared u w at f ps) (call_predeclared v w at f ps)
     call_predeclared_follows w at pre.Max ps h = extreme_call_follows true w at ps h
@@ -197,8 +198,8 @@ module _ (P : QName → Type 0) where
     parameter_named asked.Value p h x e said = h.named x e said
     parameter_named asked.Changed p h x e said = changed_named p p.meant h h.meant_named x e said
     parameter_named asked.Constant p h x e said =
-        let n = then_node (p.value u) (λ x. wants (is_some (constant_in x)) 10 p.start x) x e in
-        h.named n.0 n.1 (front_said P (p.value u) (λ x. wants (is_some (constant_in x)) 10 p.start x) said)
+        let n = then_node (p.value u) (λ x. wants (is_some (constant_in x)) rule.NotConstant p.start x) x e in
+        h.named n.0 n.1 (front_said P (p.value u) (λ x. wants (is_some (constant_in x)) rule.NotConstant p.start x) said)
 
     plain_named : (w : Where) (at : Pos) (f : Predeclared) (p : Phrase) → Ph p → (m : Meant) → (each_sound (parameters u f (p ∷ [])) ▷ call_fit u w f at).node ≡ Some m → SaidIn P (each_sound (parameters u f (p ∷ [])) ▷ call_fit u w f at).notes → NameSame P u s a p.name
     plain_named w at f p h m e said =

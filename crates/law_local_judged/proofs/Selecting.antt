@@ -19,6 +19,7 @@ use Rattle.ob_rules.specs.declared.meant.Meant.{Meant}
 use Rattle.ob_rules.specs.declared.meant.Meant.TheVariants as means
 use Rattle.ob_rules.specs.declared.values.Place.{Place}
 use Rattle.ob_rules.specs.declared.values.Valued.{Valued}
+use Rattle.ob_rules.specs.declared.broken.Rule.TheVariants as rule
 use Rattle.ob_rules.specs.Judged.{Judged, sound, silent, breaks, wants, noted, found_or, ◌▷◌}
 use Rattle.ob_rules.specs.Shapes.{Map, Member, AField, AMethod, member, pointed, pointed_record, record_of, array_of, is_array, is_held, base_record}
 use Rattle.ob_rules.specs.Names.{Around, map_of}
@@ -108,8 +109,8 @@ module _ (P : QName → Type 0) where
 
     pub guard_follows : (at : Pos) (p : Place) (t : TypeRef) → PlaceTied P p → IsIn P t → MF (PlaceIn P p) (guard f at p t) (guard g at p t)
     guard_follows at p t h i =
-        follows_then P (λ k. Unit {0}) (λ k. PlaceIn P p) (MeantTied P) (MeantIn P) (PlaceIn P p) (found_or 23 at (guard_of f p t)) (found_or 23 at (guard_of g p t)) (λ k. sound (means.Place (guarded_by p k t at true))) (λ k. sound (means.Place (guarded_by p k t at true)))
-        (follows_found P (λ k. Unit {0}) (λ k. PlaceIn P p) (PlaceIn P p) 23 at (guard_of f p t) (guard_of g p t) (λ k e. tt) (λ k e m. (m, guard_of_same p t (h m) i)))
+        follows_then P (λ k. Unit {0}) (λ k. PlaceIn P p) (MeantTied P) (MeantIn P) (PlaceIn P p) (found_or rule.UnfitTypeTest at (guard_of f p t)) (found_or rule.UnfitTypeTest at (guard_of g p t)) (λ k. sound (means.Place (guarded_by p k t at true))) (λ k. sound (means.Place (guarded_by p k t at true)))
+        (follows_found P (λ k. Unit {0}) (λ k. PlaceIn P p) (PlaceIn P p) rule.UnfitTypeTest at (guard_of f p t) (guard_of g p t) (λ k e. tt) (λ k e m. (m, guard_of_same p t (h m) i)))
         (λ k u. follows_sound P (MeantTied P) (MeantIn P) (PlaceIn P p) (means.Place (guarded_by p k t at true)) (guarded_tied p k t at true) (guarded_mentions p k t at true))
 
     -- ---- dereferences
@@ -119,7 +120,7 @@ module _ (P : QName → Type 0) where
     held_self R false q t r = place_none R silent silent refl
 
     dereference_self : (at : Pos) (p : Place) (o : Option TypeRef) → PF (PlaceIn P p) (dereference_of f at p o) (dereference_of f at p o)
-    dereference_self at p None = place_none (PlaceIn P p) (breaks 22 at) (breaks 22 at) refl
+    dereference_self at p None = place_none (PlaceIn P p) (breaks rule.UnfitSelector at) (breaks rule.UnfitSelector at) refl
     dereference_self at p (Some t) = held_self (PlaceIn P p) (is_held f t) (dereferenced p at t true) (deref_tied p at t true) (λ m. (deref_mentions P p.designator.inner at t m).0)
 
     dereference_by : (at : Pos) (p : Place) (o : Option TypeRef) → TypeIn P o → dereference_of g at p o ≡ dereference_of f at p o
@@ -168,9 +169,9 @@ module _ (P : QName → Type 0) where
     into_follows : (at : Pos) (q : Place) (i j : Judged Valued) (o : Option (Option ℕ × TypeRef)) → Follows P (ValuedTied P) (ValuedIn P) (Unit {0}) i j → PF (PlaceIn P q) (index_into f at q i o) (index_into g at q j o)
     into_follows at q i j None h = place_none (PlaceIn P q) (index_into f at q i None) (index_into g at q j None) refl
     into_follows at q i j (Some a) h =
-        follows_then P (ValuedTied P) (λ x. ValuedIn P x × PlaceIn P q) (PlaceTied P) (PlaceIn P) (PlaceIn P q) i j (λ x. wants (is_integer f x) 22 at (indexed q at x a)) (λ x. wants (is_integer g x) 22 at (indexed q at x a))
+        follows_then P (ValuedTied P) (λ x. ValuedIn P x × PlaceIn P q) (PlaceTied P) (PlaceIn P) (PlaceIn P q) i j (λ x. wants (is_integer f x) rule.UnfitSelector at (indexed q at x a)) (λ x. wants (is_integer g x) rule.UnfitSelector at (indexed q at x a))
         (follows_with P (ValuedTied P) (ValuedIn P) (PlaceIn P q) i j h)
-        (λ x t. follows_wants P (PlaceTied P) (PlaceIn P) (ValuedIn P x × PlaceIn P q) (is_integer f x) (is_integer g x) 22 at (indexed q at x a)
+        (λ x t. follows_wants P (PlaceTied P) (PlaceIn P) (ValuedIn P x × PlaceIn P q) (is_integer f x) (is_integer g x) rule.UnfitSelector at (indexed q at x a)
         (λ m. (index_mentions P q.designator.inner a.0 (tree x) at a.1 m).1.1) (λ m. let k = index_mentions P q.designator.inner a.0 (tree x) at a.1 m in (tree_mentions P x k.1.0, k.0)) (λ r. integer_same P f g agree x (t r.0)))
 
     pub index_follows : (at : Pos) (p : Place) (i j : Judged Valued) → PlaceTied P p → Follows P (ValuedTied P) (ValuedIn P) (Unit {0}) i j → PF (PlaceIn P p) (index f at p i) (index g at p j)
@@ -205,7 +206,7 @@ module _ (P : QName → Type 0) where
     -- ---- fields and bound procedures
 
     receiver_self : (k : Receiver) (b : Bool) (at : Pos) (c : Chosen) → (PlaceIn P c.receiver → ChosenIn P c) → MF (PlaceIn P c.receiver) (with_receiver k b at c) (with_receiver k b at c)
-    receiver_self receiver.Pointer false at c h = meant_none (PlaceIn P c.receiver) (breaks 22 at) (breaks 22 at) refl
+    receiver_self receiver.Pointer false at c h = meant_none (PlaceIn P c.receiver) (breaks rule.UnfitSelector at) (breaks rule.UnfitSelector at) refl
     receiver_self receiver.Pointer true at c h = follows_sound P (MeantTied P) (MeantIn P) (PlaceIn P c.receiver) (means.Bound c) h (λ m. m)
     receiver_self receiver.Record b at c h = follows_sound P (MeantTied P) (MeantIn P) (PlaceIn P c.receiver) (means.Bound c) h (λ m. m)
 
@@ -226,7 +227,7 @@ module _ (P : QName → Type 0) where
     member_self start at x p q o rec last (Some (AMethod owner d)) t r h = found_self start at p q o rec (AMethod owner d) t r h
 
     select_self : (start at : Pos) (x : Ident) (p q : Place) (o : Option TypeRef) (last : Bool) (rec : Option QName) → PlaceTied P p → Reached (map_of u) (map_of v) maps p q → ((y : QName) → rec ≡ Some y → PlaceIn P p → P y) → MF (PlaceIn P p) (select_of u start at x p q o last rec) (select_of v start at x p q o last rec)
-    select_self start at x p q o last None t r h = meant_none (PlaceIn P p) (breaks 22 at) (breaks 22 at) refl
+    select_self start at x p q o last None t r h = meant_none (PlaceIn P p) (breaks rule.UnfitSelector at) (breaks rule.UnfitSelector at) refl
     select_self start at x p q o last (Some rec) t r h =
         let k = member_self start at x p q o rec last (member (map_of u) rec x.name) t r (h rec refl) in
         record {
@@ -266,17 +267,17 @@ module _ (P : QName → Type 0) where
     super_of_self at c base (Some (AMethod owner m)) b h =
         follows_sound P (MeantTied P) (MeantIn P) (PlaceIn P c.receiver) (means.Bound (record { receiver = c.receiver; start = c.start; pointed = c.pointed; owner = c.owner; introduced = owner; method = m; base = Some base }))
         (λ k. let i = h k in record { receiver = i.receiver; owner = i.owner; base = λ q e. subst P (some_same e) b }) (λ m. m)
-    super_of_self at c base (Some (AField owner m)) b h = meant_none (PlaceIn P c.receiver) (breaks 40 at) (breaks 40 at) refl
-    super_of_self at c base None b h = meant_none (PlaceIn P c.receiver) (breaks 40 at) (breaks 40 at) refl
+    super_of_self at c base (Some (AField owner m)) b h = meant_none (PlaceIn P c.receiver) (breaks rule.UnfitSuperCall at) (breaks rule.UnfitSuperCall at) refl
+    super_of_self at c base None b h = meant_none (PlaceIn P c.receiver) (breaks rule.UnfitSuperCall at) (breaks rule.UnfitSuperCall at) refl
 
     super_in_follows : (at : Pos) (c : Chosen) (o : Option QName) → ((b : QName) → o ≡ Some b → P b) → (PlaceIn P c.receiver → ChosenIn P c) → MF (PlaceIn P c.receiver) (super_in (map_of u) at c o) (super_in (map_of v) at c o)
-    super_in_follows at c None k h = meant_none (PlaceIn P c.receiver) (breaks 40 at) (breaks 40 at) refl
+    super_in_follows at c None k h = meant_none (PlaceIn P c.receiver) (breaks rule.UnfitSuperCall at) (breaks rule.UnfitSuperCall at) refl
     super_in_follows at c (Some b) k h =
         follows_to P (MeantTied P) (MeantIn P) (PlaceIn P c.receiver) (super_in (map_of u) at c (Some b)) (super_in (map_of v) at c (Some b)) (super_of_self at c b (member (map_of u) b c.method.name) (k b refl) h)
         (λ m. ap (super_of at c b) (member_same P (map_of u) (map_of v) maps b c.method.name (k b refl)))
 
     super_if_follows : (t : Bool) (at : Pos) (c : Chosen) (owner : QName) → P owner → (PlaceIn P c.receiver → ChosenIn P c) → MF (PlaceIn P c.receiver) (super_if t (map_of u) at c owner) (super_if t (map_of v) at c owner)
-    super_if_follows false at c owner k h = meant_none (PlaceIn P c.receiver) (breaks 40 at) (breaks 40 at) refl
+    super_if_follows false at c owner k h = meant_none (PlaceIn P c.receiver) (breaks rule.UnfitSuperCall at) (breaks rule.UnfitSuperCall at) refl
     super_if_follows true at c owner k h =
         let i = super_in_follows at c (base_record (map_of u) owner) (λ b e. base_record_in P (map_of u) (map_of v) maps owner b k e) h in
         record {
@@ -285,7 +286,7 @@ module _ (P : QName → Type 0) where
         }
 
     super_by : (at : Pos) (c : Chosen) (o : Option Received) → ReceivedIn P o → (PlaceIn P c.receiver → ChosenIn P c) → MF (PlaceIn P c.receiver) (super (map_of u) at c o) (super (map_of v) at c o)
-    super_by at c None k h = meant_none (PlaceIn P c.receiver) (breaks 40 at) (breaks 40 at) refl
+    super_by at c None k h = meant_none (PlaceIn P c.receiver) (breaks rule.UnfitSuperCall at) (breaks rule.UnfitSuperCall at) refl
     super_by at c (Some r) k h = super_if_follows (same_variable c.receiver.root r.variable && not c.receiver.selected) at c r.owner k h
 
     pub super_follows : (at : Pos) (c : Chosen) → (PlaceIn P c.receiver → ChosenIn P c) → MF (PlaceIn P c.receiver) (super (map_of u) at c u.receiver) (super (map_of v) at c u.receiver)

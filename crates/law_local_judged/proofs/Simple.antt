@@ -16,6 +16,7 @@ use Rattle.ob_rules.specs.declared.meant.Meant.TheVariants as means
 use Rattle.ob_rules.specs.declared.meant.Where.TheVariants.{AsStatement, Elsewhere}
 use Rattle.ob_rules.specs.declared.values.Place.{Place}
 use Rattle.ob_rules.specs.declared.values.Valued.{Valued}
+use Rattle.ob_rules.specs.declared.broken.Rule.TheVariants as rule
 use Rattle.ob_rules.specs.Judged.{Judged, silent, breaks, wants, both, ◌▷◌}
 use Rattle.ob_rules.specs.Shapes.{Map, is_array, signature_at}
 use Rattle.ob_rules.specs.Names.{Around, map_of}
@@ -48,11 +49,11 @@ module _ (P : QName → Type 0) where
 
   -- ---- assignments
 
-  target_breaks : (R : Type 0) (start : Pos) → Follows P (PlaceTied P) (PlaceIn P) R (breaks 26 start) (breaks 26 start)
-  target_breaks R start = follows_none P (PlaceTied P) (PlaceIn P) R (breaks 26 start) (breaks 26 start) refl
+  target_breaks : (R : Type 0) (start : Pos) → Follows P (PlaceTied P) (PlaceIn P) R (breaks rule.NotChangeable start) (breaks rule.NotChangeable start)
+  target_breaks R start = follows_none P (PlaceTied P) (PlaceIn P) R (breaks rule.NotChangeable start) (breaks rule.NotChangeable start) refl
 
   target_follows : (start : Pos) (m : Meant) → MeantTied P m → Follows P (PlaceTied P) (PlaceIn P) (MeantIn P m) (target start m) (target start m)
-  target_follows start (means.Place p) t = follows_unless P (PlaceTied P) (PlaceIn P) (PlaceIn P p) p.read_only p.read_only 26 start p t (λ m. m) (λ r. refl)
+  target_follows start (means.Place p) t = follows_unless P (PlaceTied P) (PlaceIn P) (PlaceIn P p) p.read_only p.read_only rule.NotChangeable start p t (λ m. m) (λ r. refl)
   target_follows start (means.Constant c) t = target_breaks (Unit {0}) start
   target_follows start (means.Procedure q g) t = target_breaks (Unit {0}) start
   target_follows start (means.Bound c) t = target_breaks (PlaceIn P c.receiver) start
@@ -68,12 +69,12 @@ module _ (P : QName → Type 0) where
   module _ (f g : Map) (agree : Agree P f g) where
     assigns_same : (at : Pos) (p : Place) (x : Valued) → IsIn P p.of → KindIn P (type x) → assigns g at p x ≡ assigns f at p x
     assigns_same at p x h k =
-        three (λ b a q. wants b 31 at (stmt.Assign p.designator.inner (assigned_as (a && is_some (text_of x)) q a) (assigned_tree a x) at ∷ [])) (fits_same P f g agree p.of x h k) (is_array_same P f g agree p.of h) (record_same P f g agree p.of h)
+        three (λ b a q. wants b rule.NotAssignable at (stmt.Assign p.designator.inner (assigned_as (a && is_some (text_of x)) q a) (assigned_tree a x) at ∷ [])) (fits_same P f g agree p.of x h k) (is_array_same P f g agree p.of h) (record_same P f g agree p.of h)
 
     pub assigns_follows : (at : Pos) (p : Place) (x : Valued) → PlaceTied P p → ValuedTied P x → SF P (PlaceIn P p × ValuedIn P x) (assigns f at p x) (assigns g at p x)
     assigns_follows at p x t s =
         follows_to P (λ ys. Unit {0}) (AllByRecursion (StmtIn P)) (PlaceIn P p × ValuedIn P x) (assigns f at p x) (assigns g at p x)
-        (follows_wants P (λ ys. Unit {0}) (AllByRecursion (StmtIn P)) (PlaceIn P p × ValuedIn P x) (fits f p.of x) (fits f p.of x) 31 at (stmt.Assign p.designator.inner (assignment_of f p x) (assigned_tree (is_array f p.of) x) at ∷ []) tt
+        (follows_wants P (λ ys. Unit {0}) (AllByRecursion (StmtIn P)) (PlaceIn P p × ValuedIn P x) (fits f p.of x) (fits f p.of x) rule.NotAssignable at (stmt.Assign p.designator.inner (assignment_of f p x) (assigned_tree (is_array f p.of) x) at ∷ []) tt
         (λ m. let k = assign_mentions P p.designator.inner (assignment_of f p x) (assigned_tree (is_array f p.of) x) at m.0 in (k.0, assigned_mentions (is_array f p.of) x k.1)) (λ r. refl))
         (λ r. assigns_same at p x (t r.0) (s r.1))
 
@@ -115,7 +116,7 @@ module _ (P : QName → Type 0) where
     done_follows (means.Predeclared f) = stmt_none (Unit {0}) silent silent refl
 
     place_called_self : (start : Pos) (p : Place) (o : Option Signature) → SF P (PlaceIn P p) (place_called u start p o) (place_called v start p o)
-    place_called_self start p None = stmt_none (PlaceIn P p) (breaks 27 start) (breaks 27 start) refl
+    place_called_self start p None = stmt_none (PlaceIn P p) (breaks rule.MisplacedCall start) (breaks rule.MisplacedCall start) refl
     place_called_self start p (Some g) =
         follows_then P (ValuedTied P) (ValuedIn P) (λ ys. Unit {0}) (AllByRecursion (StmtIn P)) (PlaceIn P p) (call_variable u AsStatement start p g []) (call_variable v AsStatement start p g []) call_value call_value
         (call_variable_follows P u s a AsStatement start p g [] tt) (λ x t. call_value_follows x)
@@ -130,7 +131,7 @@ module _ (P : QName → Type 0) where
 
     called_follows : (n : Named) (m : Meant) → MeantTied P m → SF P (MeantIn P m) (called u n m) (called v n m)
     called_follows n (means.Place p) t = place_called_follows n.ident.pos p t
-    called_follows n (means.Constant c) t = stmt_none (Unit {0}) (breaks 3 (constant_at n.ident n.behind)) (breaks 3 (constant_at n.ident n.behind)) refl
+    called_follows n (means.Constant c) t = stmt_none (Unit {0}) (breaks rule.WrongKind (constant_at n.ident n.behind)) (breaks rule.WrongKind (constant_at n.ident n.behind)) refl
     called_follows n (means.Call x) t = call_value_follows x
     called_follows n (means.Statement y) t = one_follows (StmtIn P y.inner) y.inner (λ m. m)
     called_follows n (means.Procedure q g) t = meant_called n.ident.pos (means.Procedure q g) t
@@ -148,24 +149,24 @@ module _ (P : QName → Type 0) where
 
     pub condition_follows : (x : Phrase) → Ph x → XF (Unit {0}) (condition u x) (condition v x)
     condition_follows x h =
-        follows_then P (ValuedTied P) (ValuedIn P) (λ x. Unit {0}) (ExprIn P) (Unit {0}) (x.value u) (x.value v) (λ y. wants (is (map_of u) basic.Boolean y) 32 x.start (tree y)) (λ y. wants (is (map_of v) basic.Boolean y) 32 x.start (tree y)) h.value
-        (λ y t. follows_wants P (λ x. Unit {0}) (ExprIn P) (ValuedIn P y) (is (map_of u) basic.Boolean y) (is (map_of v) basic.Boolean y) 32 x.start (tree y) tt (λ m. tree_mentions P y m) (λ r. is_same P (map_of u) (map_of v) maps basic.Boolean y (t r)))
+        follows_then P (ValuedTied P) (ValuedIn P) (λ x. Unit {0}) (ExprIn P) (Unit {0}) (x.value u) (x.value v) (λ y. wants (is (map_of u) basic.Boolean y) rule.NotBoolean x.start (tree y)) (λ y. wants (is (map_of v) basic.Boolean y) rule.NotBoolean x.start (tree y)) h.value
+        (λ y t. follows_wants P (λ x. Unit {0}) (ExprIn P) (ValuedIn P y) (is (map_of u) basic.Boolean y) (is (map_of v) basic.Boolean y) rule.NotBoolean x.start (tree y) tt (λ m. tree_mentions P y m) (λ r. is_same P (map_of u) (map_of v) maps basic.Boolean y (t r)))
 
     -- ---- returns
 
     returned_follows : (at : Pos) (o : Option TypeRef) (x : Valued) → TypeIn P o → ValuedTied P x → SF P (ValuedIn P x) (returned (map_of u) at o x) (returned (map_of v) at o x)
-    returned_follows at None x h t = stmt_none (ValuedIn P x) (breaks 36 at) (breaks 36 at) refl
+    returned_follows at None x h t = stmt_none (ValuedIn P x) (breaks rule.UnfitReturn at) (breaks rule.UnfitReturn at) refl
     returned_follows at (Some y) x h t =
-        follows_wants P (λ ys. Unit {0}) (AllByRecursion (StmtIn P)) (ValuedIn P x) (fits (map_of u) y x) (fits (map_of v) y x) 36 at (stmt.Return (Some (tree x)) ∷ []) tt
+        follows_wants P (λ ys. Unit {0}) (AllByRecursion (StmtIn P)) (ValuedIn P x) (fits (map_of u) y x) (fits (map_of v) y x) rule.UnfitReturn at (stmt.Return (Some (tree x)) ∷ []) tt
         (λ m. tree_mentions P x (return_mentions P (tree x) m.0)) (λ r. fits_same P (map_of u) (map_of v) maps y x h (t r))
 
     none_follows : (at : Pos) (o : Option TypeRef) → SF P (Unit {0}) (return_none at o) (return_none at o)
     none_follows at None = one_follows (Unit {0}) (stmt.Return None) (λ m. tt)
-    none_follows at (Some t) = stmt_none (Unit {0}) (breaks 36 at) (breaks 36 at) refl
+    none_follows at (Some t) = stmt_none (Unit {0}) (breaks rule.UnfitReturn at) (breaks rule.UnfitReturn at) refl
 
     pub return_follows : (at : Pos) (o : Option Phrase) → IfPhrase P u s a o → SF P (Unit {0}) (return u at o) (return v at o)
     return_follows at None h = none_follows at u.result
     return_follows at (Some x) h = follows_then P (ValuedTied P) (ValuedIn P) (λ ys. Unit {0}) (AllByRecursion (StmtIn P)) (Unit {0}) (x.value u) (x.value v) (returned (map_of u) at u.result) (returned (map_of v) at u.result) h.value (λ y t. returned_follows at u.result y a.result t)
 
     pub exit_follows : (at : Pos) → SF P (Unit {0}) (exit u at) (exit v at)
-    exit_follows at = follows_wants P (λ ys. Unit {0}) (AllByRecursion (StmtIn P)) (Unit {0}) u.in_loop u.in_loop 35 at (stmt.Exit ∷ []) tt (λ m. tt) (λ r. refl)
+    exit_follows at = follows_wants P (λ ys. Unit {0}) (AllByRecursion (StmtIn P)) (Unit {0}) u.in_loop u.in_loop rule.MisplacedExit at (stmt.Exit ∷ []) tt (λ m. tt) (λ r. refl)

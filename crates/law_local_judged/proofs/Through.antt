@@ -22,6 +22,7 @@ use Rattle.ob_rules.specs.declared.meant.Meant.TheVariants as means
 use Rattle.ob_rules.specs.declared.meant.Where.{Where}
 use Rattle.ob_rules.specs.declared.values.Place.{Place}
 use Rattle.ob_rules.specs.declared.values.Valued.{Valued}
+use Rattle.ob_rules.specs.declared.broken.Rule.TheVariants as rule
 use Rattle.ob_rules.specs.Judged.{Judged, sound, silent, breaks, also, noted}
 use Rattle.ob_rules.specs.Shapes.{signature_at}
 use Rattle.ob_rules.specs.Names.{Around, map_of, find_name, entity_known, exported, export_known, shown_of, is_out, type_in, type_of_desc, type_behind, unless_variable_is, unless_variable, type_by, type_named, is_type_desc, is_type_behind, known_is, is_type_name, is_type_by}
@@ -147,7 +148,7 @@ module _ (P : QName → Type 0) (u : Around) (s : QName → Option Desc) (a : Ag
       let n = then_node (called u w at g (p ∷ []) F) (λ x. sound (means.Call x)) y e in
       called_named P u s a w at g p F h n.0 n.1 (front_said P (called u w at g (p ∷ []) F) (λ x. sound (means.Call x)) said)
 
-  also_named : (b : Bool) (w : Where) (at : Pos) (g : Signature) (p : Phrase) (F : List Actual → TypedExpr) → Ph p → (x : Valued) → (also b 26 at (called u w at g (p ∷ []) F)).node ≡ Some x → SaidIn P (also b 26 at (called u w at g (p ∷ []) F)).notes → Named p.name
+  also_named : (b : Bool) (w : Where) (at : Pos) (g : Signature) (p : Phrase) (F : List Actual → TypedExpr) → Ph p → (x : Valued) → (also b rule.NotChangeable at (called u w at g (p ∷ []) F)).node ≡ Some x → SaidIn P (also b rule.NotChangeable at (called u w at g (p ∷ []) F)).notes → Named p.name
   also_named true w at g p F h x e said = none_some e
   also_named false w at g p F h x e said = called_named P u s a w at g p F h x e said
 
@@ -206,13 +207,13 @@ module _ (P : QName → Type 0) (u : Around) (s : QName → Option Desc) (a : Ag
 
   other_self : (w : Where) (start at : Pos) (m : Meant) (ps : List Phrase) (q : Option Qualident) (t g c : Bool) → MeantTied P m → Phs ps → MF (MeantIn P m) (other_round u w start at m ps q t g c) (other_round v w start at m ps q t g c)
   other_self w start at m ps q true g c k h = call_meant_follows w start m ps k h
-  other_self w start at m ps (Some q) false true c k h = meant_none (MeantIn P m) (other_round u w start at m ps (Some q) false true c) (other_round v w start at m ps (Some q) false true c) (none_then (type_named u q) (λ t. breaks 23 at) (λ t. refl))
+  other_self w start at m ps (Some q) false true c k h = meant_none (MeantIn P m) (other_round u w start at m ps (Some q) false true c) (other_round v w start at m ps (Some q) false true c) (none_then (type_named u q) (λ t. breaks rule.UnfitTypeTest at) (λ t. refl))
   other_self w start at m ps None false g true k h = call_meant_follows w start m ps k h
   other_self w start at m ps (Some q) false false c k h = meant_none (MeantIn P m) (other_round u w start at m ps (Some q) false false c) (other_round v w start at m ps (Some q) false false c) refl
   other_self w start at m ps None false g false k h = meant_none (MeantIn P m) (other_round u w start at m ps None false g false) (other_round v w start at m ps None false g false) refl
 
   other_named : (w : Where) (start at : Pos) (m : Meant) (ps : List Phrase) (q : Option Qualident) (g c : Bool) → takes_type m ≡ false → Phs ps → (y : Meant) → (other_round u w start at m ps q false g c).node ≡ Some y → SaidIn P (other_round u w start at m ps q false g c).notes → OneNamed ps
-  other_named w start at m ps (Some q) true c other h y e said = none_some (sym (none_then (type_named u q) (λ t. breaks 23 at) (λ t. refl)) ∙ e)
+  other_named w start at m ps (Some q) true c other h y e said = none_some (sym (none_then (type_named u q) (λ t. breaks rule.UnfitTypeTest at) (λ t. refl)) ∙ e)
   other_named w start at m ps (Some q) false c other h y e said = none_some e
   other_named w start at m ps None g true other h y e said = all_named w start m ps other h y e said
   other_named w start at m ps None g false other h y e said = none_some e
@@ -245,16 +246,16 @@ module _ (P : QName → Type 0) (u : Around) (s : QName → Option Desc) (a : Ag
 
   dot_follows : (start at : Pos) (x : Ident) (last : Bool) (m : Meant) → MeantTied P m → MF (MeantIn P m) (step_dot u start at x last m) (step_dot v start at x last m)
   dot_follows start at x last (means.Place p) t = select_follows P u s a start at x p last t
-  dot_follows start at x last (means.Constant c) t = meant_none (Unit {0}) (breaks 22 at) (breaks 22 at) refl
-  dot_follows start at x last (means.Procedure q g) t = meant_none (Unit {0}) (breaks 22 at) (breaks 22 at) refl
-  dot_follows start at x last (means.Bound c) t = meant_none (PlaceIn P c.receiver) (breaks 22 at) (breaks 22 at) refl
-  dot_follows start at x last (means.Out o) t = meant_none (Unit {0}) (breaks 22 at) (breaks 22 at) refl
-  dot_follows start at x last (means.Predeclared f) t = meant_none (Unit {0}) (breaks 22 at) (breaks 22 at) refl
-  dot_follows start at x last (means.Call y) t = meant_none (ValuedIn P y) (breaks 22 at) (breaks 22 at) refl
-  dot_follows start at x last (means.Statement y) t = meant_none (MeantIn P (means.Statement y)) (breaks 22 at) (breaks 22 at) refl
+  dot_follows start at x last (means.Constant c) t = meant_none (Unit {0}) (breaks rule.UnfitSelector at) (breaks rule.UnfitSelector at) refl
+  dot_follows start at x last (means.Procedure q g) t = meant_none (Unit {0}) (breaks rule.UnfitSelector at) (breaks rule.UnfitSelector at) refl
+  dot_follows start at x last (means.Bound c) t = meant_none (PlaceIn P c.receiver) (breaks rule.UnfitSelector at) (breaks rule.UnfitSelector at) refl
+  dot_follows start at x last (means.Out o) t = meant_none (Unit {0}) (breaks rule.UnfitSelector at) (breaks rule.UnfitSelector at) refl
+  dot_follows start at x last (means.Predeclared f) t = meant_none (Unit {0}) (breaks rule.UnfitSelector at) (breaks rule.UnfitSelector at) refl
+  dot_follows start at x last (means.Call y) t = meant_none (ValuedIn P y) (breaks rule.UnfitSelector at) (breaks rule.UnfitSelector at) refl
+  dot_follows start at x last (means.Statement y) t = meant_none (MeantIn P (means.Statement y)) (breaks rule.UnfitSelector at) (breaks rule.UnfitSelector at) refl
 
-  index_breaks : (R : Type 0) (at : Pos) (i j : Judged Valued) → MF R (noted i.notes (breaks 22 at)) (noted j.notes (breaks 22 at))
-  index_breaks R at i j = meant_none R (noted i.notes (breaks 22 at)) (noted j.notes (breaks 22 at)) refl
+  index_breaks : (R : Type 0) (at : Pos) (i j : Judged Valued) → MF R (noted i.notes (breaks rule.UnfitSelector at)) (noted j.notes (breaks rule.UnfitSelector at))
+  index_breaks R at i j = meant_none R (noted i.notes (breaks rule.UnfitSelector at)) (noted j.notes (breaks rule.UnfitSelector at)) refl
 
   step_index_follows : (at : Pos) (i j : Judged Valued) (m : Meant) → MeantTied P m → Follows P (ValuedTied P) (ValuedIn P) (Unit {0}) i j → MF (MeantIn P m) (step_index (map_of u) at i m) (step_index (map_of v) at j m)
   step_index_follows at i j (means.Place p) t h = of_variable_follows P (PlaceIn P p) (index (map_of u) at p i) (index (map_of v) at p j) (index_follows P (map_of u) (map_of v) maps at p i j t h)
@@ -269,12 +270,12 @@ module _ (P : QName → Type 0) (u : Around) (s : QName → Option Desc) (a : Ag
   up_follows : (at : Pos) (m : Meant) → MeantTied P m → MF (MeantIn P m) (step_up u at m) (step_up v at m)
   up_follows at (means.Place p) t = of_variable_follows P (PlaceIn P p) (dereference (map_of u) at p) (dereference (map_of v) at p) (dereference_follows P (map_of u) (map_of v) maps at p t)
   up_follows at (means.Bound c) t = super_follows P u s a at c t
-  up_follows at (means.Constant c) t = meant_none (Unit {0}) (breaks 22 at) (breaks 22 at) refl
-  up_follows at (means.Procedure q g) t = meant_none (Unit {0}) (breaks 22 at) (breaks 22 at) refl
-  up_follows at (means.Out o) t = meant_none (Unit {0}) (breaks 22 at) (breaks 22 at) refl
-  up_follows at (means.Predeclared f) t = meant_none (Unit {0}) (breaks 22 at) (breaks 22 at) refl
-  up_follows at (means.Call y) t = meant_none (ValuedIn P y) (breaks 22 at) (breaks 22 at) refl
-  up_follows at (means.Statement y) t = meant_none (MeantIn P (means.Statement y)) (breaks 22 at) (breaks 22 at) refl
+  up_follows at (means.Constant c) t = meant_none (Unit {0}) (breaks rule.UnfitSelector at) (breaks rule.UnfitSelector at) refl
+  up_follows at (means.Procedure q g) t = meant_none (Unit {0}) (breaks rule.UnfitSelector at) (breaks rule.UnfitSelector at) refl
+  up_follows at (means.Out o) t = meant_none (Unit {0}) (breaks rule.UnfitSelector at) (breaks rule.UnfitSelector at) refl
+  up_follows at (means.Predeclared f) t = meant_none (Unit {0}) (breaks rule.UnfitSelector at) (breaks rule.UnfitSelector at) refl
+  up_follows at (means.Call y) t = meant_none (ValuedIn P y) (breaks rule.UnfitSelector at) (breaks rule.UnfitSelector at) refl
+  up_follows at (means.Statement y) t = meant_none (MeantIn P (means.Statement y)) (breaks rule.UnfitSelector at) (breaks rule.UnfitSelector at) refl
 
   -- a selector whose parts follow
   abbrev pub BehindFollows : Behind → Type 0

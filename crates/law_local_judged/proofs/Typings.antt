@@ -18,6 +18,7 @@ use Rattle.ob_types.specs.declared.typed.TypedType.{TypedType}
 use Rattle.ob_types.specs.Maps.{listed}
 use Rattle.ob_rules.specs.declared.notes.Later.{Later}
 use Rattle.ob_rules.specs.declared.notes.Later.TheVariants as later
+use Rattle.ob_rules.specs.declared.broken.Rule.TheVariants as rule
 use Rattle.ob_rules.specs.Judged.{Judged, sound, silent, breaks, unless, both, each_sound, made, noted, judge_later, if_sound, ◌▷◌}
 use Rattle.ob_rules.specs.Shapes.{record_of, is_open, is_structured, is_pointer}
 use Rattle.ob_rules.specs.Names.{is_among, Around, map_of, in_unit, type_named}
@@ -80,7 +81,7 @@ module _ (P : QName → Type 0) where
     pub named_follows : (q : Qualident) (b : Bool) → TF (TypingIn P) (type_named u q ▷ named_typing u (first_of q) b) (type_named v q ▷ named_typing v (first_of q) b)
     named_follows q b =
         follows_then P (IsIn P) (λ t. Unit {0}) (TypingIn P) (λ t. Unit {0}) (Unit {0}) (type_named u q) (type_named v q) (named_typing u (first_of q) b) (named_typing v (first_of q) b) (type_named_follows P u s a q)
-        (λ t h. follows_unless P (TypingIn P) (λ t. Unit {0}) (Unit {0}) (not b && is_open (map_of u) t) (not b && is_open (map_of v) t) 13 (first_of q) (record { of = t; made = [] }) (h, tt) (λ m. tt) (λ r. ap (λ x. not b && x) (open_same P (map_of u) (map_of v) maps t h)))
+        (λ t h. follows_unless P (TypingIn P) (λ t. Unit {0}) (Unit {0}) (not b && is_open (map_of u) t) (not b && is_open (map_of v) t) rule.MisplacedOpenArray (first_of q) (record { of = t; made = [] }) (h, tt) (λ m. tt) (λ r. ap (λ x. not b && x) (open_same P (map_of u) (map_of v) maps t h)))
 
     length_follows : (p : Phrase) → LengthFollows p → TF (λ n. Unit {0}) (array_length u p) (array_length v p)
     length_follows p h = follows_then P (λ c. Unit {0}) (λ c. Unit {0}) (λ n. Unit {0}) (λ n. Unit {0}) (Unit {0}) (constant_value u p) (constant_value v p) (length_of p.start) (length_of p.start) (constant_value_follows P u s a p (h u s a)) (λ c t. record { keeps = λ x e said. tt; same = λ x e said m. (tt, refl) })
@@ -93,7 +94,7 @@ module _ (P : QName → Type 0) where
 
     open_follows : (name : List ℕ) (m : Mark) (at : Pos) (b : Bool) (element : Written) → WrittenFollows element → TF (TypingIn P) (open_array u name m at b element) (open_array v name m at b element)
     open_follows name m at b element k =
-        follows_also P (TypingIn P) (λ t. Unit {0}) (Unit {0}) (not b || element.open_array) (not b || element.open_array) 13 at
+        follows_also P (TypingIn P) (λ t. Unit {0}) (Unit {0}) (not b || element.open_array) (not b || element.open_array) rule.MisplacedOpenArray at
         (element.typing u (element_name name) mark.Hidden element.open_array ▷ λ t. sound (typed_as u name (desc.OpenArray m t.of) t.made)) (element.typing v (element_name name) mark.Hidden element.open_array ▷ λ t. sound (typed_as v name (desc.OpenArray m t.of) t.made))
         (follows_made P (TypingIn P) (λ t. Unit {0}) (TypingIn P) (λ t. Unit {0}) (Unit {0}) (λ t. typed_as u name (desc.OpenArray m t.of) t.made) (element.typing u (element_name name) mark.Hidden element.open_array) (element.typing v (element_name name) mark.Hidden element.open_array)
         (k u s a own (element_name name) mark.Hidden element.open_array) (λ t w. as_in name (desc.OpenArray m t.of) t.made (w.0, tt) w.1) (λ t w m. tt)) (λ r. refl)
@@ -112,7 +113,7 @@ module _ (P : QName → Type 0) where
     base_follows (Some q) =
         follows_made P (IsIn P) (λ t. Unit {0}) BaseIn (λ o. Unit {0}) (Unit {0}) (λ t. Some t) (type_named u q ▷ base_of (map_of u) (first_of q)) (type_named v q ▷ base_of (map_of v) (first_of q))
         (follows_then P (IsIn P) (λ t. Unit {0}) (IsIn P) (λ t. Unit {0}) (Unit {0}) (type_named u q) (type_named v q) (base_of (map_of u) (first_of q)) (base_of (map_of v) (first_of q)) (type_named_follows P u s a q)
-        (λ t h. follows_wants P (IsIn P) (λ t. Unit {0}) (Unit {0}) (is_some (record_of (map_of u) t)) (is_some (record_of (map_of v) t)) 14 (first_of q) t h (λ m. tt) (λ r. ap (λ o. is_some o) (record_same P (map_of u) (map_of v) maps t h))))
+        (λ t h. follows_wants P (IsIn P) (λ t. Unit {0}) (Unit {0}) (is_some (record_of (map_of u) t)) (is_some (record_of (map_of v) t)) rule.UnfitBase (first_of q) t h (λ m. tt) (λ r. ap (λ o. is_some o) (record_same P (map_of u) (map_of v) maps t h))))
         (λ t h. h) (λ t h m. tt)
 
     -- the base of a record, where it keeps all rules
@@ -134,13 +135,13 @@ module _ (P : QName → Type 0) where
 
     field_follows : (base : Option (Option TypeRef)) (before : List (List ℕ)) (d : IdentDef) (o : Option Typing) → NodeIn base → TF (λ x. Unit {0}) (field_if u base before d o) (field_if v base before d o)
     field_follows base before d (Some t) h =
-        later_follows (λ x. Unit {0}) (inherits base d.ident) (marked u true d ▷ λ m. unless (is_among d.ident.name before || is_some (member_in (map_of u) (record_in (map_of u) base) d.ident.name)) 1 d.ident.pos (record { name = d.ident.name; mark = m; place = 0; of = t.of }))
-        (marked v true d ▷ λ m. unless (is_among d.ident.name before || is_some (member_in (map_of v) (record_in (map_of v) base) d.ident.name)) 1 d.ident.pos (record { name = d.ident.name; mark = m; place = 0; of = t.of }))
+        later_follows (λ x. Unit {0}) (inherits base d.ident) (marked u true d ▷ λ m. unless (is_among d.ident.name before || is_some (member_in (map_of u) (record_in (map_of u) base) d.ident.name)) rule.DeclaredTwice d.ident.pos (record { name = d.ident.name; mark = m; place = 0; of = t.of }))
+        (marked v true d ▷ λ m. unless (is_among d.ident.name before || is_some (member_in (map_of v) (record_in (map_of v) base) d.ident.name)) rule.DeclaredTwice d.ident.pos (record { name = d.ident.name; mark = m; place = 0; of = t.of }))
         (follows_then P (λ m. Unit {0}) (λ m. Unit {0}) (λ x. Unit {0}) (λ x. Unit {0}) (Unit {0}) (marked u true d) (marked v true d)
-        (λ m. unless (is_among d.ident.name before || is_some (member_in (map_of u) (record_in (map_of u) base) d.ident.name)) 1 d.ident.pos (record { name = d.ident.name; mark = m; place = 0; of = t.of }))
-        (λ m. unless (is_among d.ident.name before || is_some (member_in (map_of v) (record_in (map_of v) base) d.ident.name)) 1 d.ident.pos (record { name = d.ident.name; mark = m; place = 0; of = t.of }))
+        (λ m. unless (is_among d.ident.name before || is_some (member_in (map_of u) (record_in (map_of u) base) d.ident.name)) rule.DeclaredTwice d.ident.pos (record { name = d.ident.name; mark = m; place = 0; of = t.of }))
+        (λ m. unless (is_among d.ident.name before || is_some (member_in (map_of v) (record_in (map_of v) base) d.ident.name)) rule.DeclaredTwice d.ident.pos (record { name = d.ident.name; mark = m; place = 0; of = t.of }))
         (record { keeps = λ x e said. tt; same = λ x e said m. (tt, refl) })
-        (λ m k. follows_unless P (λ x. Unit {0}) (λ x. Unit {0}) (Unit {0}) (is_among d.ident.name before || is_some (member_in (map_of u) (record_in (map_of u) base) d.ident.name)) (is_among d.ident.name before || is_some (member_in (map_of v) (record_in (map_of v) base) d.ident.name)) 1 d.ident.pos
+        (λ m k. follows_unless P (λ x. Unit {0}) (λ x. Unit {0}) (Unit {0}) (is_among d.ident.name before || is_some (member_in (map_of u) (record_in (map_of u) base) d.ident.name)) (is_among d.ident.name before || is_some (member_in (map_of v) (record_in (map_of v) base) d.ident.name)) rule.DeclaredTwice d.ident.pos
         (record { name = d.ident.name; mark = m; place = 0; of = t.of }) tt (λ n. tt) (λ r. ap (λ o. is_among d.ident.name before || is_some o) (base_member_same base d.ident.name h))))
     field_follows base before d None h = tied_none (λ x. Unit {0}) (field_if u base before d None) (field_if v base before d None) (silent_none (field_declared u base before d (ref.Named (in_unit u []))))
       where
@@ -227,7 +228,7 @@ module _ (P : QName → Type 0) where
     judged_self : (name : List ℕ) (inline : Bool) (at : Pos) (b c : Bool) (t : Typing) → TypingIn P t → TF (TypingIn P) (base_judged name inline at b c t) (base_judged name inline at b c t)
     judged_self name inline at true c t h = follows_sound P (TypingIn P) (λ t. Unit {0}) (Unit {0}) t h (λ m. tt)
     judged_self name inline at false true t h = later_follows (TypingIn P) (later.PointsTo name at t.of inline ∷ []) (sound t) (sound t) (follows_sound P (TypingIn P) (λ t. Unit {0}) (Unit {0}) t h (λ m. tt))
-    judged_self name inline at false false t h = tied_none (TypingIn P) (breaks 15 at) (breaks 15 at) refl
+    judged_self name inline at false false t h = tied_none (TypingIn P) (breaks rule.UnfitPointerBase at) (breaks rule.UnfitPointerBase at) refl
 
     structured_same : (w : Around) (b : Agrees P w s) (t : TypeRef) → IsIn P t → is_structured (map_of (beside w s)) t ≡ is_structured (map_of w) t
     structured_same w b t h = two (λ x y. x || y) (is_array_same P (map_of w) (map_of (beside w s)) (maps_agree P w s b) t h) (is_record_same P (map_of w) (map_of (beside w s)) (maps_agree P w s b) t h)

@@ -12,6 +12,8 @@ use Rattle.ob_types.specs.declared.desc.Method.{Method}
 use Rattle.ob_types.specs.declared.typed.TypedType.{TypedType}
 use Rattle.ob_rules.specs.declared.entity.Bound.{Bound}
 use Rattle.ob_rules.specs.declared.broken.Broken.{Broken}
+use Rattle.ob_rules.specs.declared.broken.Rule.TheVariants as rule
+use Rattle.ob_rules.specs.declared.broken.Rule.{Rule}
 use Rattle.ob_rules.specs.Judged.{notes_if, broken_at, no_notes}
 use Rattle.ob_rules.specs.Shapes.{Map, Member, AField, AMethod, member}
 use Rattle.ob_rules.specs.Names.{Around, map_of, own_desc}
@@ -28,9 +30,9 @@ use Rattle.law_lists.proofs.Lists.{all_pairs, back_empty, front_empty}
 
 -- ---- those that are bound are no forward declarations
 
-broken_not : (b : Bool) (rule : ℕ) (at : Pos) → (notes_if b rule at).broken ≡ [] → b ≡ false
-broken_not true rule at e = not_empty _ [] e
-broken_not false rule at e = refl
+broken_not : (b : Bool) (which : Rule) (at : Pos) → (notes_if b which at).broken ≡ [] → b ≡ false
+broken_not true which at e = not_empty _ [] e
+broken_not false which at e = refl
 
 answered : (map : Map) (h : Head) (o : Option Head) → forward_broken map h o ≡ false → is_none o ≡ false
 answered map h None e = absurd (false≢true (sym e))
@@ -38,7 +40,7 @@ answered map h (Some x) e = refl
 
 forward_not : (map : Map) (all : List Head) (h : Head) (f : Bool) → (forward_if f map all h).broken ≡ [] → counts_if f all h ≡ true → f ≡ false
 forward_not map all h false e c = refl
-forward_not map all h true e c = absurd (false≢true (sym (answered map h (find (answers h) all) (broken_not (forward_broken map h (find (answers h) all)) 18 h.at e)) ∙ c))
+forward_not map all h true e c = absurd (false≢true (sym (answered map h (find (answers h) all) (broken_not (forward_broken map h (find (answers h) all)) rule.UnmatchedForward h.at e)) ∙ c))
 
 counted_in : (map : Map) (all xs : List Head) → (forwards_judged map all xs).broken ≡ [] → AllByRecursion (λ h. h.forward ≡ false) (filter (counts all) xs)
 counted_in map all [] e = tt
@@ -151,16 +153,16 @@ module _ (u : Around) where
   Added st more = Quiet more → Quiet st × (Signed st.bound → Signed more.bound)
 
   redefined_signed : (b : Bool) (st : Binding) (h : Head) (o : BoundAs) → IsJudged h → Added st (redefined b st h o)
-  redefined_signed true st h o i = λ e. not_empty _ [] (back_empty st.notes.broken (broken_at 20 h.at).broken e)
+  redefined_signed true st h o i = λ e. not_empty _ [] (back_empty st.notes.broken (broken_at rule.UnmatchedRedefinition h.at).broken e)
   redefined_signed false st h o i = λ e. (e, λ s. (has_signature h.parameters i.1, s))
 
   method_signed : (b : Bool) (map : Map) (st : Binding) (h : Head) (o : BoundAs) (owner : QName) (m : Method) → IsJudged h → Added st (bind_method b u map st h o owner m)
   method_signed true map st h o owner m i = λ e. (e, λ s. s)
   method_signed false map st h o owner m i = redefined_signed (introduced_sound u st.bound owner m.name && is_some h.parameters && not (same_kind m.receiver o.receiver && signatures_match map (Some m.signature) (signature_if h.parameters))) st h o i
 
-  clash_not : (st : Binding) (h : Head) (f : Bool) → h.forward ≡ f → f ≡ false → st.notes.broken ++ (notes_if (not f) 1 h.at).broken ≡ [] → ⊥
+  clash_not : (st : Binding) (h : Head) (f : Bool) → h.forward ≡ f → f ≡ false → st.notes.broken ++ (notes_if (not f) rule.DeclaredTwice h.at).broken ≡ [] → ⊥
   clash_not st h true e g q = false≢true (sym g)
-  clash_not st h false e g q = not_empty _ [] (back_empty st.notes.broken (broken_at 1 h.at).broken q)
+  clash_not st h false e g q = not_empty _ [] (back_empty st.notes.broken (broken_at rule.DeclaredTwice h.at).broken q)
 
   by_signed : (map : Map) (st : Binding) (h : Head) (o : BoundAs) (m : Option Member) → IsJudged h → Added st (bind_by u map st h o m)
   by_signed map st h o None i = λ e. (e, λ s. (has_signature h.parameters i.1, s))

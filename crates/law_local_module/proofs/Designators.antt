@@ -30,6 +30,7 @@ use Rattle.ob_rules.specs.declared.meant.Where.TheVariants.{InExpression, AsStat
 use Rattle.ob_rules.specs.declared.broken.Predeclared.{Predeclared}
 use Rattle.ob_rules.specs.declared.values.Place.{Place}
 use Rattle.ob_rules.specs.declared.values.Valued.{Valued}
+use Rattle.ob_rules.specs.declared.broken.Rule.TheVariants as rule
 use Rattle.ob_rules.specs.Judged.{Judged, Notes, if_sound, sound, silent, breaks, wants, found_or, noted, made, ◌▷◌}
 use Rattle.ob_rules.specs.Shapes.{Map, Member, AField, AMethod, member, pointed, record_of, array_of, is_array, is_held, signature_at, base_record}
 use Rattle.ob_rules.specs.Names.{Around, map_of, find_name, variable_known, is_enclosing, entity_known, name_known, named, unless_hidden, record_unless_hidden, shown_of, export_known, exported, is_out, out_procedure, type_named}
@@ -65,7 +66,7 @@ module _ (map : Map) where
   guards_nil at v (g ∷ gs) j h = guards_nil at v gs (guard_same (same_variable v g.0) map at j g.1) (same_nil (same_variable v g.0) at j g.1 h)
 
   guard_nil : (at : Pos) (p : Place) (t : TypeRef) → Nil (guard map at p t)
-  guard_nil at p t = then_nil (found_or 23 at (guard_of map p t)) (λ g. sound (means.Place (guarded_by p g t at true))) (found_nil 23 at (guard_of map p t)) (λ g. refl)
+  guard_nil at p t = then_nil (found_or rule.UnfitTypeTest at (guard_of map p t)) (λ g. sound (means.Place (guarded_by p g t at true))) (found_nil rule.UnfitTypeTest at (guard_of map p t)) (λ g. refl)
 
   -- ---- through pointers
 
@@ -82,8 +83,8 @@ module _ (map : Map) where
   deref_by at p (Some t) = so_held (is_held map t) (dereferenced p at t true)
 
   into_nil : (at : Pos) (p : Place) (i : Judged Valued) (o : Option (Option ℕ × TypeRef)) → Nil i → Nil (index_into map at p i o)
-  into_nil at p i None h = noted_nil {A = Place} i.notes (breaks 22 at) h refl
-  into_nil at p i (Some a) h = then_nil i (λ x. wants (is_integer map x) 22 at (indexed p at x a)) h (λ x. wants_nil (is_integer map x) 22 at (indexed p at x a))
+  into_nil at p i None h = noted_nil {A = Place} i.notes (breaks rule.UnfitSelector at) h refl
+  into_nil at p i (Some a) h = then_nil i (λ x. wants (is_integer map x) rule.UnfitSelector at (indexed p at x a)) h (λ x. wants_nil (is_integer map x) rule.UnfitSelector at (indexed p at x a))
 
   index_by : (o : Option Place) (at : Pos) (i : Judged Valued) → Nil i → Nil (index_if o i (λ q. index_into map at q i (array_of map q.of)))
   index_by None at i h = noted_nil {A = Place} i.notes silent h refl
@@ -162,8 +163,8 @@ module _ (u : Around) where
   callable_nil w start (means.Predeclared f) ps h = predeclared_nil u f w start ps h
   callable_nil w start m ps h = refl
 
-  visited_breaks : (ps : List Phrase) (at : Pos) → PhrasesNil u ps → Nil (noted (visited u ps) (breaks {A = Meant} 22 at))
-  visited_breaks ps at h = noted_nil {A = Meant} (visited u ps) (breaks 22 at) (visited_nil ps h) refl
+  visited_breaks : (ps : List Phrase) (at : Pos) → PhrasesNil u ps → Nil (noted (visited u ps) (breaks {A = Meant} rule.UnfitSelector at))
+  visited_breaks ps at h = noted_nil {A = Meant} (visited u ps) (breaks rule.UnfitSelector at) (visited_nil ps h) refl
 
   place_nil : (w : Where) (start at : Pos) (p : Place) (ps : List Phrase) (o : Option Qualident) (s : Option Signature) → PhrasesNil u ps → Nil (place_round u w start at p ps o s)
   place_nil w start at p ps (Some k) s h = then_nil (type_named u k) (guard (map_of u) at p) (type_nil u k) (λ t. guard_nil (map_of u) at p t)
@@ -172,7 +173,7 @@ module _ (u : Around) where
 
   other_nil : (w : Where) (start at : Pos) (m : Meant) (ps : List Phrase) (o : Option Qualident) (t g c : Bool) → PhrasesNil u ps → Nil (other_round u w start at m ps o t g c)
   other_nil w start at m ps o true g c h = callable_nil w start m ps h
-  other_nil w start at m ps (Some k) false true c h = then_nil (type_named u k) (λ t. breaks 23 at) (type_nil u k) (λ t. refl)
+  other_nil w start at m ps (Some k) false true c h = then_nil (type_named u k) (λ t. breaks rule.UnfitTypeTest at) (type_nil u k) (λ t. refl)
   other_nil w start at m ps None false g true h = callable_nil w start m ps h
   other_nil w start at m ps (Some k) false false c h = visited_breaks ps at h
   other_nil w start at m ps None false g false h = visited_breaks ps at h
@@ -189,7 +190,7 @@ module _ (u : Around) where
 
   at_nil : (at : Pos) (i : Judged Valued) (m : Meant) → Nil i → Nil (step_index (map_of u) at i m)
   at_nil at i (means.Place p) h = as_place (index (map_of u) at p i) (index_nil (map_of u) at p i h)
-  at_nil at i m h = noted_nil {A = Meant} i.notes (breaks 22 at) h refl
+  at_nil at i m h = noted_nil {A = Meant} i.notes (breaks rule.UnfitSelector at) h refl
 
   up_nil : (at : Pos) (m : Meant) → Nil (step_up u at m)
   up_nil at (means.Place p) = as_place (dereference (map_of u) at p) (deref_by (map_of u) at p (pointed (map_of u) p.of))

@@ -1,5 +1,5 @@
 -- Expressions leave nothing for later, by induction over the tree of the grammar.
-use Rattle.std.proofs.Common.{◌≡◌, refl, sym, subst, ℕ, Bool, true, false, not, List, [], ◌∷◌, map, Option, Some, None}
+use Rattle.std.proofs.Common.{◌≡◌, refl, sym, subst, Bool, true, false, not, List, [], ◌∷◌, map, Option, Some, None}
 use Rattle.std.specs.Prelude.{nat_le, pos}
 use Rattle.std.specs.List.{AllByRecursion}
 use Rattle.ob_tree.specs.declared.pos.Pos.{Pos}
@@ -27,6 +27,7 @@ use Rattle.ob_rules.specs.declared.meant.Meant.TheVariants as means
 use Rattle.ob_rules.specs.declared.meant.Where.{Where}
 use Rattle.ob_rules.specs.declared.meant.Where.TheVariants.{InExpression}
 use Rattle.ob_rules.specs.declared.values.Valued.{Valued}
+use Rattle.ob_rules.specs.declared.broken.Rule.TheVariants as rule
 use Rattle.ob_rules.specs.Judged.{Judged, sound, breaks, also, wants, both, each_sound, made, ◌▷◌}
 use Rattle.ob_rules.specs.Shapes.{Map}
 use Rattle.ob_rules.specs.Names.{Around, map_of, type_named}
@@ -73,10 +74,10 @@ module _ (u : Around) where
   tested : (at : Pos) (i : Judged Valued) (r : Phrase) (o : Option Qualident) → Nil i → Ph r → Nil (is_test u at i r o)
   tested at i r (Some k) h l =
       then_nil (both (untestable (map_of u) at i) (type_named u k)) (λ p. test (map_of u) at p.0 p.1)
-      (both_nil (untestable (map_of u) at i) (type_named u k) (then_nil i (λ x. wants (testable (map_of u) x) 23 at x) h (λ x. wants_nil (testable (map_of u) x) 23 at x)) (type_nil u k))
-      (λ p. found_nil 23 at (test_of (map_of u) p.0 p.1 (record_if (map_of u) (type_in (type p.0)))))
+      (both_nil (untestable (map_of u) at i) (type_named u k) (then_nil i (λ x. wants (testable (map_of u) x) rule.UnfitTypeTest at x) h (λ x. wants_nil (testable (map_of u) x) rule.UnfitTypeTest at x)) (type_nil u k))
+      (λ p. found_nil rule.UnfitTypeTest at (test_of (map_of u) p.0 p.1 (record_if (map_of u) (type_in (type p.0)))))
   tested at i r None h l =
-      then_nil (both i (r.value u)) (λ p. also (not (testable (map_of u) p.0)) 23 at (breaks 21 at)) (both_nil i (r.value u) h l.value) (λ p. also_nil (not (testable (map_of u) p.0)) 23 at (breaks 21 at) refl)
+      then_nil (both i (r.value u)) (λ p. also (not (testable (map_of u) p.0)) rule.UnfitTypeTest at (breaks rule.UnfitOperands at)) (both_nil i (r.value u) h l.value) (λ p. also_nil (not (testable (map_of u) p.0)) rule.UnfitTypeTest at (breaks rule.UnfitOperands at) refl)
 
   compared : (o : Relation) (at : Pos) (i : Judged Valued) (r : Phrase) → Nil i → Ph r → Nil (both i (r.value u) ▷ λ p. related (map_of u) o at p.0 p.1)
   compared o at i r h k = then_nil (both i (r.value u)) (λ p. related (map_of u) o at p.0 p.1) (both_nil i (r.value u) h k.value) (λ p. related_nil (map_of u) o at p.0 p.1)
@@ -157,8 +158,8 @@ module _ (u : Around) where
 
   expr_cases : (y : Expr-F SE SS SD SL ST) → PE (roll-Expr (map-Expr SE SS SD SL ST Expr Selector Designator Element Tail (λ x. x.0) (λ x. x.0) (λ x. x.0) (λ x. x.0) (λ x. x.0) y))
   expr_cases (Expr-F.Designator n) = by_layer (Expr-F.Designator n.0) (designator_nil (named_of n.0) n.1)
-  expr_cases (Expr-F.Int at text) = by_layer (Expr-F.Int at text) (phrase_nil at (λ u. integer_literal at (integer_text text)) (wants_nil (nat_le (integer_text text) 2147483647) 9 at (constant (literal.Int (pos (integer_text text))))))
-  expr_cases (Expr-F.Char at text) = by_layer (Expr-F.Char at text) (phrase_nil at (λ u. char_literal at (marked 0 text)) (wants_nil (nat_le (marked 0 text) 255) 9 at (constant (literal.Char (marked 0 text)))))
+  expr_cases (Expr-F.Int at text) = by_layer (Expr-F.Int at text) (phrase_nil at (λ u. integer_literal at (integer_text text)) (wants_nil (nat_le (integer_text text) 2147483647) rule.LiteralTooLarge at (constant (literal.Int (pos (integer_text text))))))
+  expr_cases (Expr-F.Char at text) = by_layer (Expr-F.Char at text) (phrase_nil at (λ u. char_literal at (marked 0 text)) (wants_nil (nat_le (marked 0 text) 255) rule.LiteralTooLarge at (constant (literal.Char (marked 0 text)))))
   expr_cases (Expr-F.Str at text) = by_layer (Expr-F.Str at text) (phrase_nil at (λ u. sound (constant (text_value text))) refl)
   expr_cases (Expr-F.Nil at) = by_layer (Expr-F.Nil at) (phrase_nil at (λ u. sound (constant literal.Nil)) refl)
   expr_cases (Expr-F.Set at xs) =

@@ -12,6 +12,7 @@ use Rattle.ob_types.specs.declared.typed.OutProcedure.{OutProcedure}
 use Rattle.ob_rules.specs.declared.entity.Entity.{Entity}
 use Rattle.ob_rules.specs.declared.entity.Entity.TheVariants as entity
 use Rattle.ob_rules.specs.declared.entity.Known.{Known}
+use Rattle.ob_rules.specs.declared.broken.Rule.{Rule}
 use Rattle.ob_rules.specs.Judged.{Judged, sound, breaks, if_sound, both, made, each_sound, unless, wants, also, found_or, ◌▷◌}
 use Rattle.ob_rules.specs.Names.{Around, find_name, variable_known, is_enclosing, entity_known, name_known, named, shown_of, export_known, exported, is_out, out_procedure, out_type, type_of_desc, type_in, type_of_entity, type_behind, unless_variable_is, unless_variable, type_by, type_named}
 use Rattle.law_lists.proofs.Lists.{both_empty}
@@ -40,19 +41,19 @@ pub each_nil : {A : Type 0} (js : List (Judged A)) → AllNil js → Nil (each_s
 each_nil [] h = refl
 each_nil (j ∷ js) h = made_nil (λ p. p.0 ∷ p.1) (both j (each_sound js)) (both_nil j (each_sound js) h.0 (each_nil js h.1))
 
-pub unless_nil : {A : Type 0} (b : Bool) (rule : ℕ) (at : Pos) (x : A) → Nil (unless b rule at x)
+pub unless_nil : {A : Type 0} (b : Bool) (rule : Rule) (at : Pos) (x : A) → Nil (unless b rule at x)
 unless_nil true rule at x = refl
 unless_nil false rule at x = refl
 
-pub wants_nil : {A : Type 0} (b : Bool) (rule : ℕ) (at : Pos) (x : A) → Nil (wants b rule at x)
+pub wants_nil : {A : Type 0} (b : Bool) (rule : Rule) (at : Pos) (x : A) → Nil (wants b rule at x)
 wants_nil true rule at x = refl
 wants_nil false rule at x = refl
 
-pub also_nil : {A : Type 0} (b : Bool) (rule : ℕ) (at : Pos) (j : Judged A) → Nil j → Nil (also b rule at j)
+pub also_nil : {A : Type 0} (b : Bool) (rule : Rule) (at : Pos) (j : Judged A) → Nil j → Nil (also b rule at j)
 also_nil true rule at j h = h
 also_nil false rule at j h = h
 
-pub found_nil : {A : Type 0} (rule : ℕ) (at : Pos) (o : Option A) → Nil (found_or rule at o)
+pub found_nil : {A : Type 0} (rule : Rule) (at : Pos) (o : Option A) → Nil (found_or rule at o)
 found_nil rule at None = refl
 found_nil rule at (Some x) = refl
 

@@ -20,6 +20,8 @@ use Rattle.ob_types.specs.declared.desc.Desc.{Desc}
 use Rattle.ob_rules.specs.declared.entity.Entity.{Entity}
 use Rattle.ob_rules.specs.declared.entity.Entity.TheVariants as entity
 use Rattle.ob_rules.specs.declared.entity.Known.{Known}
+use Rattle.ob_rules.specs.declared.broken.Rule.TheVariants as rule
+use Rattle.ob_rules.specs.declared.broken.Rule.{Rule}
 use Rattle.ob_rules.specs.Judged.{Judged, Notes, no_notes, notes_if, joined, noted, if_sound, both, broken_at, ◌▷◌}
 use Rattle.ob_rules.specs.Names.{Around, map_of, type_named, found_in_scope}
 use Rattle.ob_rules.specs.Shapes.{pointed}
@@ -49,12 +51,12 @@ use Rattle.law_lists.proofs.Lists.{all_both, back_empty, both_empty, front_empty
 
 -- ---- what leaves nothing
 
-if_nil : (b : Bool) (rule : ℕ) (at : Pos) → (notes_if b rule at).later ≡ []
-if_nil true rule at = refl
-if_nil false rule at = refl
+if_nil : (b : Bool) (which : Rule) (at : Pos) → (notes_if b which at).later ≡ []
+if_nil true which at = refl
+if_nil false which at = refl
 
 twice_nil : (u : Around) (x : Ident) → (twice u x).later ≡ []
-twice_nil u x = if_nil _ 1 x.pos
+twice_nil u x = if_nil _ rule.DeclaredTwice x.pos
 
 no_nil_nil : (at : Pos) (v : Value) → Nil (no_nil at v)
 no_nil_nil at literal.Nil = refl
@@ -193,7 +195,7 @@ module _ (P : QName → Type 0) (s : QName → Option Desc) where
       (parameters_left P s name g.parameters (written_parameters_follow P h.parameters) (written_parameters_left P h.parameters) v agrees (subst (OwnIn P) (sym (receiver_unit (inner u) g.receiver b.node)) own)) said
 
   declared_left : (t : Bool) (d : Head) (u : Around) → (SaidIn P d.notes → Left P d.notes) → SaidIn P (declared_head t d u).notes → Left P (declared_head t d u).notes
-  declared_left true d u h said = left_both P d.notes (broken_at 1 d.at) (h (said_left P d.notes (broken_at 1 d.at) said)) tt
+  declared_left true d u h said = left_both P d.notes (broken_at rule.DeclaredTwice d.at) (h (said_left P d.notes (broken_at rule.DeclaredTwice d.at) said)) tt
   declared_left false d u h said = h said
 
   before_said : (ps : List Written_procedure) (hs : Heads) → AllByRecursion (HeadSaid P) (headings_in_order ps hs).before → AllByRecursion (HeadSaid P) hs.before

@@ -27,6 +27,7 @@ use Rattle.ob_rules.specs.declared.broken.Predeclared.{Predeclared}
 use Rattle.ob_rules.specs.declared.broken.Predeclared.TheVariants as pre
 use Rattle.ob_rules.specs.declared.values.Place.{Place}
 use Rattle.ob_rules.specs.declared.values.Valued.{Valued}
+use Rattle.ob_rules.specs.declared.broken.Rule.TheVariants as rule
 use Rattle.ob_rules.specs.Judged.{Judged, sound, breaks, also, wants, unless, each_sound, made, ◌▷◌}
 use Rattle.ob_rules.specs.Shapes.{Map, array_of, pointed, is_held, record_of}
 use Rattle.ob_rules.specs.Names.{Around, map_of, type_named}
@@ -174,7 +175,7 @@ or_breaks at (Some j) h = h
 
 module _ (u : Around) where
   changed_of : (start : Pos) (m : Meant) → Nil (changed_meant start m)
-  changed_of start (means.Place p) = unless_nil p.read_only 26 start (value_at p)
+  changed_of start (means.Place p) = unless_nil p.read_only rule.NotChangeable start (value_at p)
   changed_of start m = refl
 
   changed_nil : (p : Phrase) → Nil (p.value u) → (o : Option (Around → Judged Meant)) → MeantNil u o → Nil (changed_as u p o)
@@ -184,7 +185,7 @@ module _ (u : Around) where
   parameter_nil : (a : Asked) (p : Phrase) → PhraseNil u p → Nil (parameter u a p)
   parameter_nil asked.Value p h = h.value
   parameter_nil asked.Changed p h = changed_nil p h.value p.meant h.meant
-  parameter_nil asked.Constant p h = then_nil (p.value u) (λ x. wants (is_some (constant_in x)) 10 p.start x) h.value (λ x. wants_nil (is_some (constant_in x)) 10 p.start x)
+  parameter_nil asked.Constant p h = then_nil (p.value u) (λ x. wants (is_some (constant_in x)) rule.NotConstant p.start x) h.value (λ x. wants_nil (is_some (constant_in x)) rule.NotConstant p.start x)
 
   values_nil : (ps : List Phrase) → PhrasesNil u ps → AllNil (values u ps)
   values_nil [] h = tt
@@ -208,18 +209,18 @@ module _ (u : Around) where
   extreme_nil max at None b = refl
 
   extremes : (max : Bool) (w : Where) (at : Pos) (ps : List Phrase) → PhrasesNil u ps → Nil (extreme_call max u w at ps)
-  extremes max w at [] h = also_nil (misplaced w true) 27 at (breaks 28 at) refl
+  extremes max w at [] h = also_nil (misplaced w true) rule.MisplacedCall at (breaks rule.UnfitPredeclaredParameters at) refl
   extremes max w at (p ∷ []) h =
-      then_nil (type_parameter u p p.name) (λ t. also (misplaced w true) 27 at (extreme_of max at t (basic_if (map_of u) t))) (type_parameter_nil p h.0.value p.name)
-      (λ t. also_nil (misplaced w true) 27 at (extreme_of max at t (basic_if (map_of u) t)) (extreme_nil max at t (basic_if (map_of u) t)))
+      then_nil (type_parameter u p p.name) (λ t. also (misplaced w true) rule.MisplacedCall at (extreme_of max at t (basic_if (map_of u) t))) (type_parameter_nil p h.0.value p.name)
+      (λ t. also_nil (misplaced w true) rule.MisplacedCall at (extreme_of max at t (basic_if (map_of u) t)) (extreme_nil max at t (basic_if (map_of u) t)))
   extremes max w at (p ∷ q ∷ ps) h =
-      then_nil (type_parameter u p p.name) (λ t. each_sound (values u (q ∷ ps)) ▷ λ xs. also (misplaced w true) 27 at (breaks 28 at)) (type_parameter_nil p h.0.value p.name)
-      (λ t. then_nil (each_sound (values u (q ∷ ps))) (λ xs. also (misplaced w true) 27 at (breaks 28 at)) (each_nil (values u (q ∷ ps)) (values_nil (q ∷ ps) h.1)) (λ xs. also_nil (misplaced w true) 27 at (breaks 28 at) refl))
+      then_nil (type_parameter u p p.name) (λ t. each_sound (values u (q ∷ ps)) ▷ λ xs. also (misplaced w true) rule.MisplacedCall at (breaks rule.UnfitPredeclaredParameters at)) (type_parameter_nil p h.0.value p.name)
+      (λ t. then_nil (each_sound (values u (q ∷ ps))) (λ xs. also (misplaced w true) rule.MisplacedCall at (breaks rule.UnfitPredeclaredParameters at)) (each_nil (values u (q ∷ ps)) (values_nil (q ∷ ps) h.1)) (λ xs. also_nil (misplaced w true) rule.MisplacedCall at (breaks rule.UnfitPredeclaredParameters at) refl))
 
   others : (f : Predeclared) (w : Where) (at : Pos) (ps : List Phrase) → PhrasesNil u ps → Nil (each_sound (parameters u f ps) ▷ call_fit u w f at)
   others f w at ps h =
       then_nil (each_sound (parameters u f ps)) (call_fit u w f at) (each_nil (parameters u f ps) (parameters_nil f ps h))
-      (λ xs. also_nil (misplaced w (is_function f)) 27 at (if_fit at (fit (map_of u) f at xs)) (or_breaks at (fit (map_of u) f at xs) (fit_good (map_of u) f at xs)))
+      (λ xs. also_nil (misplaced w (is_function f)) rule.MisplacedCall at (if_fit at (fit (map_of u) f at xs)) (or_breaks at (fit (map_of u) f at xs) (fit_good (map_of u) f at xs)))
 
   pub predeclared_nil : (f : Predeclared) (w : Where) (at : Pos) (ps : List Phrase) → PhrasesNil u ps → Nil (call_predeclared u w at f ps)
   predeclared_nil pre.Max w at ps h = extremes true w at ps h

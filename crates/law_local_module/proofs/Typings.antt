@@ -22,6 +22,8 @@ use Rattle.ob_rules.specs.declared.notes.Later.TheVariants as later
 use Rattle.ob_rules.specs.declared.entity.Entity.{Entity}
 use Rattle.ob_rules.specs.declared.entity.Known.{Known}
 use Rattle.ob_rules.specs.declared.values.Valued.{Valued}
+use Rattle.ob_rules.specs.declared.broken.Rule.TheVariants as rule
+use Rattle.ob_rules.specs.declared.broken.Rule.{Rule}
 use Rattle.ob_rules.specs.Judged.{Judged, Notes, if_sound, sound, silent, breaks, both, made, noted, joined, each_sound, also, unless, wants, is_quiet, judge_later, ◌▷◌}
 use Rattle.ob_rules.specs.Shapes.{record_of, is_open, is_structured, is_pointer}
 use Rattle.ob_rules.specs.Names.{Around, map_of, in_unit, is_among, type_named, found_in_scope}
@@ -113,9 +115,9 @@ module _ (P : QName → Type 0) where
   pub left_pair : {A B : Type 0} (a : Judged A) (b : Judged B) → (SaidIn P a.notes → Left a.notes) → (SaidIn P b.notes → Left b.notes) → SaidIn P (both a b).notes → Left (both a b).notes
   left_pair a b h k said = left_both a.notes b.notes (h (said_left P a.notes b.notes said)) (k (said_right P a.notes b.notes said))
 
-  also_left : {A : Type 0} (b : Bool) (rule : ℕ) (at : Pos) (j : Judged A) → (SaidIn P j.notes → Left j.notes) → SaidIn P (also b rule at j).notes → Left (also b rule at j).notes
-  also_left true rule at j h said = h (record { objects = said.objects; types = said.types; lengths = said.lengths })
-  also_left false rule at j h said = h said
+  also_left : {A : Type 0} (b : Bool) (which : Rule) (at : Pos) (j : Judged A) → (SaidIn P j.notes → Left j.notes) → SaidIn P (also b which at j).notes → Left (also b which at j).notes
+  also_left true which at j h said = h (record { objects = said.objects; types = said.types; lengths = said.lengths })
+  also_left false which at j h said = h said
 
   -- A TYPE THAT IS WRITTEN leaves nothing else wherever it stands
   abbrev pub WrittenLeft : Written → Type 0
@@ -123,7 +125,7 @@ module _ (P : QName → Type 0) where
 
   module _ (u : Around) (s : QName → Option Desc) (a : Agrees P u s) (own : OwnIn P u.unit) where
     pub named_left : (q : Qualident) (b : Bool) → SaidIn P (type_named u q ▷ named_typing u (first_of q) b).notes → Left (type_named u q ▷ named_typing u (first_of q) b).notes
-    named_left q b said = left_nil (type_named u q ▷ named_typing u (first_of q) b).notes (then_nil (type_named u q) (named_typing u (first_of q) b) (type_nil u q) (λ t. unless_nil (not b && is_open (map_of u) t) 13 (first_of q) (record { of = t; made = [] })))
+    named_left q b said = left_nil (type_named u q ▷ named_typing u (first_of q) b).notes (then_nil (type_named u q) (named_typing u (first_of q) b) (type_nil u q) (λ t. unless_nil (not b && is_open (map_of u) t) rule.MisplacedOpenArray (first_of q) (record { of = t; made = [] })))
 
     fixed_left : (name : List ℕ) (m : Mark) (ls : List Phrase) (element : Written) → AllByRecursion LengthNil ls → WrittenLeft element → SaidIn P (fixed_array u name m ls element).notes → Left (fixed_array u name m ls element).notes
     fixed_left name m [] element h k said = k u s a own name m false said
@@ -135,7 +137,7 @@ module _ (P : QName → Type 0) where
     pub array_left : (name : List ℕ) (m : Mark) (at : Pos) (b : Bool) (ls : List Phrase) (element : Written) → AllByRecursion LengthNil ls → WrittenLeft element → SaidIn P (array u name m at b ls element).notes → Left (array u name m at b ls element).notes
     array_left name m at b [] element h k said =
         let j = element.typing u (element_name name) mark.Hidden element.open_array in
-        also_left (not b || element.open_array) 13 at (j ▷ λ t. sound (typed_as u name (desc.OpenArray m t.of) t.made))
+        also_left (not b || element.open_array) rule.MisplacedOpenArray at (j ▷ λ t. sound (typed_as u name (desc.OpenArray m t.of) t.made))
         (left_then j (λ t. sound (typed_as u name (desc.OpenArray m t.of) t.made)) (k u s a own (element_name name) mark.Hidden element.open_array) (λ x e y z. tt)) said
     array_left name m at b (l ∷ ls) element h k said = fixed_left name m (l ∷ ls) element h k said
 
@@ -145,9 +147,9 @@ module _ (P : QName → Type 0) where
     NodeIn None = Unit {0}
     NodeIn (Some o) = TypeIn P o
 
-    wanted : (b : Bool) (rule : ℕ) (at : Pos) (t r : TypeRef) → (wants b rule at t).node ≡ Some r → t ≡ r
-    wanted true rule at t r e = some_same e
-    wanted false rule at t r e = none_some e
+    wanted : (b : Bool) (which : Rule) (at : Pos) (t r : TypeRef) → (wants b which at t).node ≡ Some r → t ≡ r
+    wanted true which at t r e = some_same e
+    wanted false which at t r e = none_some e
 
     base_in : (q : Qualident) (o : Option TypeRef) → (base_if u (Some q)).node ≡ Some o → SaidIn P (base_if u (Some q)).notes → TypeIn P o
     base_in q o e said =
@@ -157,7 +159,7 @@ module _ (P : QName → Type 0) where
         let said_j = said_left P j.notes (if_sound j.node (λ t. sound (Some t))).notes said in
         let said_t = said_left P (type_named u q).notes (if_sound (type_named u q).node (base_of (map_of u) (first_of q))).notes said_j in
         let h = (type_named_follows P u s a q).keeps k.0 k.1 said_t in
-        let same = wanted (is_some (record_of (map_of u) k.0)) 14 (first_of q) k.0 n.0 (sym (ap (λ o. (noted (type_named u q).notes (if_sound o (base_of (map_of u) (first_of q)))).node) k.1) ∙ n.1.0) in
+        let same = wanted (is_some (record_of (map_of u) k.0)) rule.UnfitBase (first_of q) k.0 n.0 (sym (ap (λ o. (noted (type_named u q).notes (if_sound o (base_of (map_of u) (first_of q)))).node) k.1) ∙ n.1.0) in
         subst (TypeIn P) n.1.1 (subst (IsIn P) same h)
 
     node_in : (b : Option Qualident) → SaidIn P (base_if u b).notes → (o : Option (Option TypeRef)) → (base_if u b).node ≡ o → NodeIn o
@@ -167,7 +169,7 @@ module _ (P : QName → Type 0) where
 
     base_nil : (b : Option Qualident) → Nil (base_if u b)
     base_nil None = refl
-    base_nil (Some q) = made_nil (λ t. Some t) (type_named u q ▷ base_of (map_of u) (first_of q)) (then_nil (type_named u q) (base_of (map_of u) (first_of q)) (type_nil u q) (λ t. wants_nil (is_some (record_of (map_of u) t)) 14 (first_of q) t))
+    base_nil (Some q) = made_nil (λ t. Some t) (type_named u q ▷ base_of (map_of u) (first_of q)) (then_nil (type_named u q) (base_of (map_of u) (first_of q)) (type_nil u q) (λ t. wants_nil (is_some (record_of (map_of u) t)) rule.UnfitBase (first_of q) t))
 
     inherits_left : {A : Type 0} (base : Option (Option TypeRef)) (x : Ident) (j : Judged A) → NodeIn base → Nil j → Left (judge_later (inherits base x) j).notes
     inherits_left None x j h k = left_nil j.notes k
@@ -178,7 +180,7 @@ module _ (P : QName → Type 0) where
     field_left base before d t h =
         let c = is_among d.ident.name before || is_some (member_in (map_of u) (record_in (map_of u) base) d.ident.name) in
         let f : Mark → Field = λ m. record { name = d.ident.name; mark = m; place = 0; of = t } in
-        inherits_left base d.ident (marked u true d ▷ λ m. unless c 1 d.ident.pos (f m)) h (then_nil (marked u true d) (λ m. unless c 1 d.ident.pos (f m)) (mark_nil u true d) (λ m. unless_nil c 1 d.ident.pos (f m)))
+        inherits_left base d.ident (marked u true d ▷ λ m. unless c rule.DeclaredTwice d.ident.pos (f m)) h (then_nil (marked u true d) (λ m. unless c rule.DeclaredTwice d.ident.pos (f m)) (mark_nil u true d) (λ m. unless_nil c rule.DeclaredTwice d.ident.pos (f m)))
 
     one_field : (base : Option (Option TypeRef)) (before : List (List ℕ)) (d : IdentDef) (o : Option Typing) → NodeIn base → Left (field_if u base before d o).notes
     one_field base before d (Some t) h = field_left base before d t.of h
@@ -296,7 +298,7 @@ module _ (P : QName → Type 0) where
 
     result_nil : (u : Around) (o : Option Qualident) → Nil (result_of u o)
     result_nil u None = refl
-    result_nil u (Some q) = then_nil (type_named u q) (result_fits u (first_of q)) (type_nil u q) (λ t. unless_nil (is_structured (map_of u) t) 17 (first_of q) (Some t))
+    result_nil u (Some q) = then_nil (type_named u q) (result_fits u (first_of q)) (type_nil u q) (λ t. unless_nil (is_structured (map_of u) t) rule.StructuredResult (first_of q) (Some t))
 
     pub parameters_left : (name : List ℕ) (p : WrittenParameters) → AllByRecursion (λ x. WrittenFollows P x.node) p.sections → AllByRecursion (λ x. WrittenLeft x.node) p.sections → (u : Around) → Agrees P u s → OwnIn P u.unit → SaidIn P (parameters_in u name p).found.notes → Left (parameters_in u name p).found.notes
     parameters_left name p f k u a own said =

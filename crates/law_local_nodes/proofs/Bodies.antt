@@ -32,6 +32,8 @@ use Rattle.ob_rules.specs.declared.meant.Where.TheVariants.{InExpression, AsStat
 use Rattle.ob_rules.specs.declared.meant.Selects.{Selects}
 use Rattle.ob_rules.specs.declared.values.Place.{Place}
 use Rattle.ob_rules.specs.declared.values.Valued.{Valued}
+use Rattle.ob_rules.specs.declared.broken.Rule.TheVariants as rule
+use Rattle.ob_rules.specs.declared.broken.Rule.{Rule}
 use Rattle.ob_rules.specs.Judged.{Judged, if_sound, sound, breaks, wants, unless, both, made, noted, ◌▷◌}
 use Rattle.ob_rules.specs.Shapes.{Map, signature_at, width_of, basic_of, is_pointer}
 use Rattle.ob_rules.specs.Names.{Around, map_of, named, type_named, find_name}
@@ -85,12 +87,12 @@ branch_there i j h k = two_there i j (λ p. roll-TypedBranch (record { test = p.
 
 range_there : (b : Bool) (at : Pos) (low high : ℤ) → There (range_if b at low high)
 range_there true at low high = λ n. tt
-range_there false at low high = breaks_speaks {A = Label} Anything 33 at
+range_there false at low high = breaks_speaks {A = Label} Anything rule.UnfitCase at
 
 label_by : (at : Pos) (before : List Label) (a b : Option ℤ) → There (label_of at before a b)
 label_by at before (Some low) (Some high) = range_there (int_le low high && not (list_any (overlaps low high) before)) at low high
-label_by at before (Some low) None = breaks_speaks {A = Label} Anything 33 at
-label_by at before None b = breaks_speaks {A = Label} Anything 33 at
+label_by at before (Some low) None = breaks_speaks {A = Label} Anything rule.UnfitCase at
+label_by at before None b = breaks_speaks {A = Label} Anything rule.UnfitCase at
 
 label_there : (o : Option Selects) → is_some o ≡ true → (at : Pos) (before : List Label) (p : Value × Value) → There (label_both o at before p)
 label_there None e at before p = absurd (false≢true e)
@@ -122,12 +124,12 @@ module _ (u : Around) (s : Option Selects) (e : is_some s ≡ true) where
       (cases_there q ls.before cs h.1)
 
 -- what is wanted is so
-wanted : {A : Type 0} (f : A → Bool) (rule : ℕ) (at : Pos) (x : A) → Speaks (λ (y : A). f y ≡ true) (wants (f x) rule at x)
-wanted {A} f rule at x = go (f x) refl
+wanted : {A : Type 0} (f : A → Bool) (which : Rule) (at : Pos) (x : A) → Speaks (λ (y : A). f y ≡ true) (wants (f x) which at x)
+wanted {A} f which at x = go (f x) refl
   where
-    go : (b : Bool) → f x ≡ b → Speaks (λ (y : A). f y ≡ true) (wants b rule at x)
+    go : (b : Bool) → f x ≡ b → Speaks (λ (y : A). f y ≡ true) (wants b which at x)
     go true e = λ n. e
-    go false e = breaks_speaks (λ (y : A). f y ≡ true) rule at
+    go false e = breaks_speaks (λ (y : A). f y ≡ true) which at
 
 module _ (u : Around) (q : Quiet u) where
   abbrev Ph : Phrase → Type 0
@@ -136,14 +138,14 @@ module _ (u : Around) (q : Quiet u) where
   -- ---- assignments and calls
 
   target_there : (start : Pos) (m : Meant) → There (target start m)
-  target_there start (means.Place p) = unless_speaks Anything p.read_only 26 start p tt
-  target_there start m = breaks_speaks {A = Place} Anything 26 start
+  target_there start (means.Place p) = unless_speaks Anything p.read_only rule.NotChangeable start p tt
+  target_there start m = breaks_speaks {A = Place} Anything rule.NotChangeable start
 
   pub assignment_there : (n : Named) (at : Pos) (x : Phrase) → AreBehind u q n.behind → Ph x → There (assignment u n at x)
   assignment_there n at x h k =
       then_speaks (λ (p : Place × Valued). Unit {0} × Unit {0}) Anything (both (meant_by Elsewhere n u ▷ target n.ident.pos) (x.value u)) (λ p. assigns (map_of u) at p.0 p.1)
       (both_speak Anything Anything (meant_by Elsewhere n u ▷ target n.ident.pos) (x.value u) (then_speaks (Fits Elsewhere) Anything (meant_by Elsewhere n u) (target n.ident.pos) (meant_there u q Elsewhere n h) (λ m i. target_there n.ident.pos m)) k.value)
-      (λ p m. wants_speaks Anything (fits (map_of u) p.0.of p.1) 31 at _ tt)
+      (λ p m. wants_speaks Anything (fits (map_of u) p.0.of p.1) rule.NotAssignable at _ tt)
 
   done_there : (m : Meant) → IsDone m → There (done m)
   done_there (means.Call x) h = λ n. tt
@@ -151,7 +153,7 @@ module _ (u : Around) (q : Quiet u) where
   done_there m h = absurd h
 
   place_there : (start : Pos) (p : Place) (o : Option Signature) → There (place_called u start p o)
-  place_there start p None = breaks_speaks {A = List TypedStmt} Anything 27 start
+  place_there start p None = breaks_speaks {A = List TypedStmt} Anything rule.MisplacedCall start
   place_there start p (Some s) = then_speaks Anything Anything (call_variable u AsStatement start p s []) call_value (held_there u AsStatement start p s [] tt) (λ x t. λ n. tt)
 
   callable : (start : Pos) (m : Meant) → is_callable m ≡ true → There (call_meant u AsStatement start m [] ▷ done)
@@ -159,7 +161,7 @@ module _ (u : Around) (q : Quiet u) where
 
   called_there : (n : Named) (m : Meant) → There (called u n m)
   called_there n (means.Place p) = place_there n.ident.pos p (signature_at (map_of u) p.of)
-  called_there n (means.Constant v) = breaks_speaks {A = List TypedStmt} Anything 3 (constant_at n.ident n.behind)
+  called_there n (means.Constant v) = breaks_speaks {A = List TypedStmt} Anything rule.WrongKind (constant_at n.ident n.behind)
   called_there n (means.Call x) = λ e. tt
   called_there n (means.Statement s) = λ e. tt
   called_there n (means.Procedure name s) = callable n.ident.pos (means.Procedure name s) refl
@@ -173,7 +175,7 @@ module _ (u : Around) (q : Quiet u) where
   -- ---- conditions
 
   condition_there : (x : Phrase) → Ph x → There (condition u x)
-  condition_there x h = then_speaks Anything Anything (x.value u) (λ v. wants (is (map_of u) basic.Boolean v) 32 x.start (tree v)) h.value (λ v t. wants_speaks Anything (is (map_of u) basic.Boolean v) 32 x.start (tree v) tt)
+  condition_there x h = then_speaks Anything Anything (x.value u) (λ v. wants (is (map_of u) basic.Boolean v) rule.NotBoolean x.start (tree v)) h.value (λ v t. wants_speaks Anything (is (map_of u) basic.Boolean v) rule.NotBoolean x.start (tree v) tt)
 
   abbrev pub ConditionThere : Conditional → Type 0
   ConditionThere b = PhraseThere u b.test × BodyThere b.body
@@ -207,25 +209,25 @@ module _ (u : Around) (q : Quiet u) where
       let s = selects_if (map_of u) i.node in
       then_speaks (λ p. (is_some (selects (map_of u) p.0) ≡ true) × Unit {0}) Anything (both i (both (cases u s [] cs) (in_turn_if o u))) (λ p. one (stmt.Case (tree p.0) p.1.0 p.1.1 at))
       (both_after (λ y. is_some (selects (map_of u) y) ≡ true) Anything i (both (cases u s [] cs) (in_turn_if o u))
-      (then_speaks Anything (λ y. is_some (selects (map_of u) y) ≡ true) (x.value u) (case_value (map_of u) x.start) h.value (λ y t. wanted (λ y. is_some (selects (map_of u) y)) 33 x.start y))
+      (then_speaks Anything (λ y. is_some (selects (map_of u) y) ≡ true) (x.value u) (case_value (map_of u) x.start) h.value (λ y t. wanted (λ y. is_some (selects (map_of u) y)) rule.UnfitCase x.start y))
       (λ n. speaks_more (λ p. Unit {0} × Unit {0}) Anything (both (cases u s [] cs) (in_turn_if o u)) (λ p t. tt) (both_speak Anything Anything (cases u s [] cs) (in_turn_if o u) (cases_there u s (if_selects i.node n) q [] cs k) (if_turn o l u q))))
       (λ p m. λ n. tt)
 
   -- ---- FOR
 
   integer_there : (at : Pos) (p : Place) → There (integer_place (map_of u) at p)
-  integer_there at p = wants_speaks Anything (is_some (width_of (basic_of (map_of u) p.of))) 34 at p tt
+  integer_there at p = wants_speaks Anything (is_some (width_of (basic_of (map_of u) p.of))) rule.UnfitFor at p tt
 
   variable_there : (at : Pos) (x : Ident) (e : Entity) → NameIs u q x.name e → There (for_variable u at x e)
   variable_there at x (entity.Variable v t) h =
       then_speaks Anything Anything (variable_named u x.pos v t false) (λ p. integer_place (map_of u) at p) (λ n. q.guards x.name None v t (plain h.k h.found h.what) x.pos false) (λ p i. integer_there at p)
-  variable_there at x (entity.TypeName t) h = breaks_speaks {A = Place} Anything 3 x.pos
-  variable_there at x (entity.Module m) h = breaks_speaks {A = Place} Anything 3 x.pos
-  variable_there at x e h = breaks_speaks {A = Place} Anything 34 at
+  variable_there at x (entity.TypeName t) h = breaks_speaks {A = Place} Anything rule.WrongKind x.pos
+  variable_there at x (entity.Module m) h = breaks_speaks {A = Place} Anything rule.WrongKind x.pos
+  variable_there at x e h = breaks_speaks {A = Place} Anything rule.UnfitFor at
 
   step_by : (at : Pos) (v : Value) → There (step_value at v)
-  step_by at (literal.Int z) = unless_speaks Anything (int_eq z (pos 0)) 34 at z tt
-  step_by at v = breaks_speaks {A = ℤ} Anything 34 at
+  step_by at (literal.Int z) = unless_speaks Anything (int_eq z (pos 0)) rule.UnfitFor at z tt
+  step_by at v = breaks_speaks {A = ℤ} Anything rule.UnfitFor at
 
   step_there : (at : Pos) (o : Option Phrase) → There (for_step u at o)
   step_there at None = λ n. tt
@@ -239,7 +241,7 @@ module _ (u : Around) (q : Quiet u) where
       (both_speak (λ r. Unit {0} × Unit {0}) (λ r. Unit {0} × Unit {0}) (both (a ▷ f) (b ▷ f)) (both s body) (both_speak Anything Anything (a ▷ f) (b ▷ f) (bound a i) (bound b j)) (both_speak Anything Anything s body k l)) (λ r m. λ n. tt)
     where
       bound : (a : Judged Valued) → There a → There (a ▷ for_bound (map_of u) at p)
-      bound a i = then_speaks Anything Anything a (for_bound (map_of u) at p) i (λ x t. wants_speaks Anything (fits (map_of u) p.of x) 34 at (tree x) tt)
+      bound a i = then_speaks Anything Anything a (for_bound (map_of u) at p) i (λ x t. wants_speaks Anything (fits (map_of u) p.of x) rule.UnfitFor at (tree x) tt)
 
   pub for_there : (at : Pos) (x : Ident) (a b : Phrase) (step : Option Phrase) (body : List Judging) → Ph a → Ph b → BodyThere body → There (for u at x a b step body)
   for_there at x a b step body h k l =
@@ -252,15 +254,15 @@ module _ (u : Around) (q : Quiet u) where
   -- ---- EXIT and RETURN
 
   pub exit_there : (at : Pos) → There (exit u at)
-  exit_there at = wants_speaks Anything u.in_loop 35 at (stmt.Exit ∷ []) tt
+  exit_there at = wants_speaks Anything u.in_loop rule.MisplacedExit at (stmt.Exit ∷ []) tt
 
   returned_there : (at : Pos) (o : Option TypeRef) (x : Valued) → There (returned (map_of u) at o x)
-  returned_there at None x = breaks_speaks {A = List TypedStmt} Anything 36 at
-  returned_there at (Some t) x = wants_speaks Anything (fits (map_of u) t x) 36 at (stmt.Return (Some (tree x)) ∷ []) tt
+  returned_there at None x = breaks_speaks {A = List TypedStmt} Anything rule.UnfitReturn at
+  returned_there at (Some t) x = wants_speaks Anything (fits (map_of u) t x) rule.UnfitReturn at (stmt.Return (Some (tree x)) ∷ []) tt
 
   none_there : (at : Pos) (o : Option TypeRef) → There (return_none at o)
   none_there at None = λ n. tt
-  none_there at (Some t) = breaks_speaks {A = List TypedStmt} Anything 36 at
+  none_there at (Some t) = breaks_speaks {A = List TypedStmt} Anything rule.UnfitReturn at
 
   abbrev pub IfPhrase : Option Phrase → Type 0
   IfPhrase None = Unit {0}
@@ -317,17 +319,17 @@ module _ (u : Around) (q : Quiet u) where
       let same : h.k ≡ k = cc in
       let rest : r.1 ≡ [] = h.rest ∙ (ap (λ (k : Known). behind (is_module k.what) bs) same ∙ ap (λ e. behind (is_module e) bs) w) in
       subst (λ bs. Speaks (MeantIs (Some m) x) (through u InExpression m.pos bs r.0)) (sym rest) (λ z. dotted_is k n m x r.0 f w h.front))
-  module_meant m x k f e w = breaks_speaks (MeantIs (Some m) x) 3 m.pos
+  module_meant m x k f e w = breaks_speaks (MeantIs (Some m) x) rule.WrongKind m.pos
 
   named_meant : (m x : Ident) → Speaks (MeantIs (Some m) x) (with_named u m x)
   named_meant m x = then_speaks (NameIs u q m.name) (MeantIs (Some m) x) (named u m) (with_module u m x) (named_there u q m) (λ e h. module_meant m x h.k h.found e h.what)
 
   qualified_by : (m x : Ident) (e : Entity) → Speaks (MeantIs (Some m) x) (with_qualified_by u m x e)
-  qualified_by m x (entity.Variable v t) = breaks_speaks (MeantIs (Some m) x) 3 m.pos
+  qualified_by m x (entity.Variable v t) = breaks_speaks (MeantIs (Some m) x) rule.WrongKind m.pos
   qualified_by m x e = named_meant m x
 
   qualified : (m x : Ident) (o : Option Known) → Speaks (MeantIs (Some m) x) (with_qualified u m x o)
-  qualified m x None = breaks_speaks (MeantIs (Some m) x) 2 m.pos
+  qualified m x None = breaks_speaks (MeantIs (Some m) x) rule.NotDeclared m.pos
   qualified m x (Some k) = qualified_by m x k.what
 
   with_meant_there : (o : Option Ident) (x : Ident) → Speaks (MeantIs o x) (with_meant u o x)
@@ -337,8 +339,8 @@ module _ (u : Around) (q : Quiet u) where
   with_meant_there (Some m) x = qualified m x (find_name u.known m.name)
 
   place_meant : (o : Option Ident) (x : Ident) (at : Pos) (m : Meant) → MeantIs o x m → Speaks (GuardedIs o x) (with_place (map_of u) at m)
-  place_meant o x at (means.Place p) h = wants_speaks (GuardedIs o x) (is_pointer (map_of u) p.of || p.var_record) 37 at p h
-  place_meant o x at m h = breaks_speaks (GuardedIs o x) 37 at
+  place_meant o x at (means.Place p) h = wants_speaks (GuardedIs o x) (is_pointer (map_of u) p.of || p.var_record) rule.UnfitWith at p h
+  place_meant o x at m h = breaks_speaks (GuardedIs o x) rule.UnfitWith at
 
   -- a test that is made, and the guard that it is of
   record WithIs (g : Guard) (r : TypedExpr × TypeRef) : Type 0 where
@@ -348,7 +350,7 @@ module _ (u : Around) (q : Quiet u) where
     guards : guard_of (map_of u) p r.1 ≡ Some k
 
   guard_given : (at : Pos) (p : Place) (o : Option (Guarded × QName)) (t : TypeRef) → Speaks (λ (z : Place × (Guarded × QName)). o ≡ Some z.1) (with_guard at p o t)
-  guard_given at p None t = breaks_speaks (λ (z : Place × (Guarded × QName)). None ≡ Some z.1) 37 at
+  guard_given at p None t = breaks_speaks (λ (z : Place × (Guarded × QName)). None ≡ Some z.1) rule.UnfitWith at
   guard_given at p (Some k) t = λ n. refl
 
   tested_is : (g : Guard) (at : Pos) (p : Place) (t : TypeRef) → GuardedIs g.variable.qualifier g.variable.ident p → Speaks (WithIs g) (tested (map_of u) at p t)

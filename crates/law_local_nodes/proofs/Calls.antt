@@ -21,6 +21,7 @@ use Rattle.ob_rules.specs.declared.meant.Meant.TheVariants as means
 use Rattle.ob_rules.specs.declared.meant.Where.{Where}
 use Rattle.ob_rules.specs.declared.values.Place.{Place}
 use Rattle.ob_rules.specs.declared.values.Valued.{Valued}
+use Rattle.ob_rules.specs.declared.broken.Rule.TheVariants as rule
 use Rattle.ob_rules.specs.Judged.{Judged, sound, breaks, also, wants, both, ◌▷◌}
 use Rattle.ob_rules.specs.Shapes.{Map, open_element, passing_of, is_array, base_record}
 use Rattle.ob_rules.specs.Names.{Around, map_of, bound_for}
@@ -38,24 +39,24 @@ module _ (u : Around) where
 
   variable_there : (t : TypeRef) (start : Pos) (p : Place) → There (variable_actual (map_of u) t start p)
   variable_there t start p =
-      also_speaks Anything (not (takes_variable (map_of u) (open_element (map_of u) t) t p.of)) 25 start (unless_read_only (map_of u) t start p)
-      (also_speaks Anything p.read_only 26 start (unless_guarded (map_of u) t start p)
-      (also_speaks Anything p.guarded 38 start (sound (actual_of (passing_of (map_of u) mode.Var t) t (e.Designator p.designator.inner))) (λ n. tt)))
+      also_speaks Anything (not (takes_variable (map_of u) (open_element (map_of u) t) t p.of)) rule.UnfitParameter start (unless_read_only (map_of u) t start p)
+      (also_speaks Anything p.read_only rule.NotChangeable start (unless_guarded (map_of u) t start p)
+      (also_speaks Anything p.guarded rule.GuardedVarParameter start (sound (actual_of (passing_of (map_of u) mode.Var t) t (e.Designator p.designator.inner))) (λ n. tt)))
 
   meant_there : (t : TypeRef) (start : Pos) (m : Meant) → There (meant_actual (map_of u) t start m)
   meant_there t start (means.Place p) = variable_there t start p
-  meant_there t start (means.Call x) = breaks_speaks {A = Actual} Anything 25 start
-  meant_there t start m = breaks_speaks {A = Actual} Anything 26 start
+  meant_there t start (means.Call x) = breaks_speaks {A = Actual} Anything rule.UnfitParameter start
+  meant_there t start m = breaks_speaks {A = Actual} Anything rule.NotChangeable start
 
   var_there : (t : TypeRef) (p : Phrase) → There (p.value u) → (o : Option (Around → Judged Meant)) → MeantThere u o → There (var_actual u t p o)
-  var_there t p h None k = then_speaks Anything Anything (p.value u) (λ x. breaks 25 p.start) h (λ x i. breaks_speaks {A = Actual} Anything 25 p.start)
+  var_there t p h None k = then_speaks Anything Anything (p.value u) (λ x. breaks rule.UnfitParameter p.start) h (λ x i. breaks_speaks {A = Actual} Anything rule.UnfitParameter p.start)
   var_there t p h (Some f) k = then_speaks Anything Anything (f u) (meant_actual (map_of u) t p.start) k (λ m i. meant_there t p.start m)
 
   actual_there : (m : Mode) (t : TypeRef) (p : Phrase) → PhraseThere u p → There (actual u m t p)
   actual_there mode.Var t p h = var_there t p h.value p.meant h.meant
   actual_there mode.Value t p h =
       then_speaks Anything Anything (p.value u) (value_actual (map_of u) t p.start) h.value
-      (λ x i. wants_speaks Anything (takes_value (map_of u) (open_element (map_of u) t) t x) 25 p.start (actual_of (passing_of (map_of u) mode.Value t) t (tree_for (is_array (map_of u) t) x)) tt)
+      (λ x i. wants_speaks Anything (takes_value (map_of u) (open_element (map_of u) t) t x) rule.UnfitParameter p.start (actual_of (passing_of (map_of u) mode.Value t) t (tree_for (is_array (map_of u) t) x)) tt)
 
   actuals_there : (fs : List (Mode × TypeRef)) (ps : List Phrase) → PhrasesThere u ps → There (actuals u fs ps)
   actuals_there fs [] h = λ n. tt
@@ -68,8 +69,8 @@ module _ (u : Around) where
 
   with_there : (w : Where) (at : Pos) (s : Signature) (n : ℕ) (f : List Actual → TypedExpr) (xs : List Actual) → There (called_with w at s n f xs)
   with_there w at s n f xs =
-      then_speaks Anything Anything (wants (nat_eq n (length s.params)) 24 at xs) (λ ys. also (misplaced w (is_some s.result)) 27 at (sound (computed (f ys) (result_type s.result))))
-      (wants_speaks Anything (nat_eq n (length s.params)) 24 at xs tt) (λ ys i. also_speaks Anything (misplaced w (is_some s.result)) 27 at (sound (computed (f ys) (result_type s.result))) (λ n. tt))
+      then_speaks Anything Anything (wants (nat_eq n (length s.params)) rule.WrongParameterCount at xs) (λ ys. also (misplaced w (is_some s.result)) rule.MisplacedCall at (sound (computed (f ys) (result_type s.result))))
+      (wants_speaks Anything (nat_eq n (length s.params)) rule.WrongParameterCount at xs tt) (λ ys i. also_speaks Anything (misplaced w (is_some s.result)) rule.MisplacedCall at (sound (computed (f ys) (result_type s.result))) (λ n. tt))
 
   called_there : (w : Where) (at : Pos) (s : Signature) (ps : List Phrase) (f : List Actual → TypedExpr) → PhrasesThere u ps → There (called u w at s ps f)
   called_there w at s ps f h = then_speaks Anything Anything (actuals u s.params ps) (called_with w at s (length ps) f) (actuals_there s.params ps h) (λ xs i. with_there w at s (length ps) f xs)
@@ -102,5 +103,5 @@ module _ (u : Around) where
     pub bound_there : (w : Where) (at : Pos) (c : Chosen) (ps : List Phrase) → PhrasesThere u ps → There (call_bound u w at c ps)
     bound_there w at c ps h =
         subst (λ b. There (call_bound_sound b u w at c ps)) (sym (nearest_there 201 (where_from c c.base) c.method.name))
-        (also_speaks Anything (is_record_receiver c.method.receiver && ((receiver_place c).read_only && is_none c.base)) 26 at (called u w at c.method.signature ps (λ xs. e.Call (bound_callee c c.base) (receiver_actual c.method.receiver c ∷ xs) at c.method.signature.result))
+        (also_speaks Anything (is_record_receiver c.method.receiver && ((receiver_place c).read_only && is_none c.base)) rule.NotChangeable at (called u w at c.method.signature ps (λ xs. e.Call (bound_callee c c.base) (receiver_actual c.method.receiver c ∷ xs) at c.method.signature.result))
         (called_there w at c.method.signature ps (λ xs. e.Call (bound_callee c c.base) (receiver_actual c.method.receiver c ∷ xs) at c.method.signature.result) h))

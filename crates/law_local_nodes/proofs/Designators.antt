@@ -31,6 +31,8 @@ use Rattle.ob_rules.specs.declared.meant.Where.TheVariants.{InExpression, AsStat
 use Rattle.ob_rules.specs.declared.broken.Predeclared.{Predeclared}
 use Rattle.ob_rules.specs.declared.values.Place.{Place}
 use Rattle.ob_rules.specs.declared.values.Valued.{Valued}
+use Rattle.ob_rules.specs.declared.broken.Rule.TheVariants as rule
+use Rattle.ob_rules.specs.declared.broken.Rule.{Rule}
 use Rattle.ob_rules.specs.Judged.{Judged, Notes, if_sound, sound, breaks, wants, found_or, noted, made, ◌▷◌}
 use Rattle.ob_rules.specs.Shapes.{Map, Member, AField, AMethod, member, pointed, record_of, array_of, is_array, is_held, signature_at, base_record}
 use Rattle.ob_rules.specs.Names.{Around, map_of, find_name, variable_known, is_enclosing, entity_known, name_known, named, unless_hidden, record_unless_hidden, shown_of, export_known, exported, is_out, out_procedure, type_named}
@@ -47,12 +49,12 @@ use Rattle.law_local_nodes.proofs.Calls.{procedure_there, held_there, out_there,
 use Rattle.law_local_nodes.proofs.Guards.{Means, plain, behind as behind_dot, Quiet, are_known, found_in}
 use Rattle.law_lists.proofs.Lists.{Anything, back_empty, front_empty}
 
-pub noted_breaks : {A : Type 0} (P : A → Type 0) (n : Notes) (rule : ℕ) (at : Pos) → Speaks P (noted n (breaks {A = A} rule at))
-noted_breaks P n rule at = λ e. not_empty _ [] (back_empty n.broken _ e)
+pub noted_breaks : {A : Type 0} (P : A → Type 0) (n : Notes) (which : Rule) (at : Pos) → Speaks P (noted n (breaks {A = A} which at))
+noted_breaks P n which at = λ e. not_empty _ [] (back_empty n.broken _ e)
 
-pub found_there : {A : Type 0} (rule : ℕ) (at : Pos) (o : Option A) → There (found_or rule at o)
-found_there {A} rule at None = breaks_speaks {A = A} Anything rule at
-found_there rule at (Some x) = λ n. tt
+pub found_there : {A : Type 0} (which : Rule) (at : Pos) (o : Option A) → There (found_or which at o)
+found_there {A} which at None = breaks_speaks {A = A} Anything which at
+found_there which at (Some x) = λ n. tt
 
 abbrev No : Judged Meant → Type 0
 No j = Speaks IsNoStatement j
@@ -75,15 +77,15 @@ module _ (map : Map) (held : IsHeld map) where
   implicit_there wanted at p = implicit_by wanted at p (pointed map p.of) (λ t e. held p.of t e)
 
   deref_by : (at : Pos) (p : Place) (o : Option TypeRef) → ((t : TypeRef) → o ≡ Some t → is_held map t ≡ true) → There (dereference_of map at p o)
-  deref_by at p None h = breaks_speaks {A = Place} Anything 22 at
+  deref_by at p None h = breaks_speaks {A = Place} Anything rule.UnfitSelector at
   deref_by at p (Some t) h = λ n. held_has (is_held map t) (dereferenced p at t true) (h t refl)
 
   dereference_there : (at : Pos) (p : Place) → There (dereference map at p)
   dereference_there at p = deref_by at p (pointed map p.of) (λ t e. held p.of t e)
 
   into_there : (at : Pos) (p : Place) (i : Judged Valued) (o : Option (Option ℕ × TypeRef)) → There i → There (index_into map at p i o)
-  into_there at p i None h = noted_breaks {A = Place} Anything i.notes 22 at
-  into_there at p i (Some a) h = then_speaks Anything Anything i (λ x. wants (is_integer map x) 22 at (indexed p at x a)) h (λ x t. wants_speaks Anything (is_integer map x) 22 at (indexed p at x a) tt)
+  into_there at p i None h = noted_breaks {A = Place} Anything i.notes rule.UnfitSelector at
+  into_there at p i (Some a) h = then_speaks Anything Anything i (λ x. wants (is_integer map x) rule.UnfitSelector at (indexed p at x a)) h (λ x t. wants_speaks Anything (is_integer map x) rule.UnfitSelector at (indexed p at x a) tt)
 
   if_there : (o : Option Place) (at : Pos) (i : Judged Valued) → Has Anything o → There i → There (index_if o i (λ q. index_into map at q i (array_of map q.of)))
   if_there None at i h k = absurd h
@@ -95,25 +97,25 @@ module _ (map : Map) (held : IsHeld map) where
   -- ---- P^
 
   of_super : (at : Pos) (c : Chosen) (base : QName) (o : Option Member) → No (super_of at c base o)
-  of_super at c base None = breaks_speaks IsNoStatement 40 at
-  of_super at c base (Some (AField owner f)) = breaks_speaks IsNoStatement 40 at
+  of_super at c base None = breaks_speaks IsNoStatement rule.UnfitSuperCall at
+  of_super at c base (Some (AField owner f)) = breaks_speaks IsNoStatement rule.UnfitSuperCall at
   of_super at c base (Some (AMethod owner m)) = λ n. tt
 
   in_super : (at : Pos) (c : Chosen) (o : Option QName) → No (super_in map at c o)
-  in_super at c None = breaks_speaks IsNoStatement 40 at
+  in_super at c None = breaks_speaks IsNoStatement rule.UnfitSuperCall at
   in_super at c (Some base) = of_super at c base (member map base c.method.name)
 
   if_super : (b : Bool) (at : Pos) (c : Chosen) (owner : QName) → No (super_if b map at c owner)
   if_super true at c owner = in_super at c (base_record map owner)
-  if_super false at c owner = breaks_speaks IsNoStatement 40 at
+  if_super false at c owner = breaks_speaks IsNoStatement rule.UnfitSuperCall at
 
   super_there : (at : Pos) (c : Chosen) (o : Option Received) → No (super map at c o)
-  super_there at c None = breaks_speaks IsNoStatement 40 at
+  super_there at c None = breaks_speaks IsNoStatement rule.UnfitSuperCall at
   super_there at c (Some r) = if_super (same_variable c.receiver.root r.variable && not c.receiver.selected) at c r.owner
 
 guard_there : (map : Map) (at : Pos) (p : Place) (t : TypeRef) → No (guard map at p t)
 guard_there map at p t =
-    then_speaks Anything IsNoStatement (found_or 23 at (guard_of map p t)) (λ g. sound (means.Place (guarded_by p g t at true))) (found_there 23 at (guard_of map p t)) (λ g h. λ n. tt)
+    then_speaks Anything IsNoStatement (found_or rule.UnfitTypeTest at (guard_of map p t)) (λ g. sound (means.Place (guarded_by p g t at true))) (found_there rule.UnfitTypeTest at (guard_of map p t)) (λ g h. λ n. tt)
 
 as_place : (j : Judged Place) → There j → No (j ▷ λ q. sound (means.Place q))
 as_place j h = then_speaks Anything IsNoStatement j (λ q. sound (means.Place q)) h (λ q t. λ n. tt)
@@ -147,7 +149,7 @@ is_shown None e h = absurd cc
 is_shown (Some d) e h = ap (λ d. Some d) (as_shown d e h)
 
 export_is : (q : QName) (at : Pos) (o : Option Desc) → Speaks (λ (e : QName × Desc). o ≡ Some e.1) (export_known q at o)
-export_is q at None = breaks_speaks (λ (e : QName × Desc). None ≡ Some e.1) 2 at
+export_is q at None = breaks_speaks (λ (e : QName × Desc). None ≡ Some e.1) rule.NotDeclared at
 export_is q at (Some d) = λ n. refl
 
 module _ (u : Around) (q : Quiet u) where
@@ -157,17 +159,17 @@ module _ (u : Around) (q : Quiet u) where
   -- ---- members
 
   bound_by : (r : Receiver) (b : Bool) (at : Pos) (c : Chosen) → No (with_receiver r b at c)
-  bound_by receiver.Pointer false at c = breaks_speaks IsNoStatement 22 at
+  bound_by receiver.Pointer false at c = breaks_speaks IsNoStatement rule.UnfitSelector at
   bound_by receiver.Pointer true at c = λ n. tt
   bound_by receiver.Record b at c = λ n. tt
 
   member_there : (start at : Pos) (x : Ident) (p r : Place) (o : Option TypeRef) (rec : QName) (last : Bool) (m : Option Member) → No (member_of u start at x p r o rec last m)
-  member_there start at x p r o rec last None = subst (λ cs. No (not_there (list_any (λ c. comes_as u rec x.name c) cs) last start x)) (sym q.quiet.coming) (breaks_speaks IsNoStatement 2 x.pos)
+  member_there start at x p r o rec last None = subst (λ cs. No (not_there (list_any (λ c. comes_as u rec x.name c) cs) last start x)) (sym q.quiet.coming) (breaks_speaks IsNoStatement rule.NotDeclared x.pos)
   member_there start at x p r o rec last (Some (AField owner f)) = λ n. tt
   member_there start at x p r o rec last (Some (AMethod owner m)) = bound_by m.receiver (is_some o) at (chosen start p o rec owner m)
 
   of_there : (start at : Pos) (x : Ident) (p r : Place) (o : Option TypeRef) (last : Bool) (rec : Option QName) → No (select_of u start at x p r o last rec)
-  of_there start at x p r o last None = breaks_speaks IsNoStatement 22 at
+  of_there start at x p r o last None = breaks_speaks IsNoStatement rule.UnfitSelector at
   of_there start at x p r o last (Some rec) = member_there start at x p r o rec last (member (map_of u) rec x.name)
 
   select_there : (start at : Pos) (x : Ident) (p : Place) (last : Bool) → No (select u start at x p last)
@@ -194,14 +196,14 @@ module _ (u : Around) (q : Quiet u) where
   place_there : (w : Where) (start at : Pos) (p : Place) (ps : List Phrase) (o : Option Qualident) (s : Option Signature) → PhrasesThere u ps → No (place_round u w start at p ps o s)
   place_there w start at p ps (Some k) s h = then_speaks Anything IsNoStatement (type_named u k) (guard (map_of u) at p) (name_speaks u k known_there) (λ t i. guard_there (map_of u) at p t)
   place_there w start at p ps None (Some s) h = call_no (call_variable u w start p s ps) (held_there u w start p s ps h)
-  place_there w start at p ps None None h = noted_breaks IsNoStatement (visited u ps) 22 at
+  place_there w start at p ps None None h = noted_breaks IsNoStatement (visited u ps) rule.UnfitSelector at
 
   other_there : (w : Where) (start at : Pos) (m : Meant) (ps : List Phrase) (o : Option Qualident) (t g c : Bool) → takes_type m ≡ t → is_callable m ≡ c → PhrasesThere u ps → Speaks (Fits w) (other_round u w start at m ps o t g c)
   other_there w start at m ps o true g c e f h = come_there w start m ps (type_callable m e) h
-  other_there w start at m ps (Some k) false true c e f h = then_speaks Anything (Fits w) (type_named u k) (λ t. breaks 23 at) (name_speaks u k known_there) (λ t i. breaks_speaks (Fits w) 23 at)
+  other_there w start at m ps (Some k) false true c e f h = then_speaks Anything (Fits w) (type_named u k) (λ t. breaks rule.UnfitTypeTest at) (name_speaks u k known_there) (λ t i. breaks_speaks (Fits w) rule.UnfitTypeTest at)
   other_there w start at m ps None false g true e f h = come_there w start m ps f h
-  other_there w start at m ps (Some k) false false c e f h = noted_breaks (Fits w) (visited u ps) 22 at
-  other_there w start at m ps None false g false e f h = noted_breaks (Fits w) (visited u ps) 22 at
+  other_there w start at m ps (Some k) false false c e f h = noted_breaks (Fits w) (visited u ps) rule.UnfitSelector at
+  other_there w start at m ps None false g false e f h = noted_breaks (Fits w) (visited u ps) rule.UnfitSelector at
 
   others_there : (w : Where) (start at : Pos) (m : Meant) (ps : List Phrase) → PhrasesThere u ps → Speaks (Fits w) (other_round u w start at m ps (type_in_round u ps) (takes_type m) (is_guardable m) (is_callable m))
   others_there w start at m ps h = other_there w start at m ps (type_in_round u ps) (takes_type m) (is_guardable m) (is_callable m) refl refl h
@@ -214,16 +216,16 @@ module _ (u : Around) (q : Quiet u) where
 
   dot_there : (start at : Pos) (x : Ident) (last : Bool) (m : Meant) → No (step_dot u start at x last m)
   dot_there start at x last (means.Place p) = select_there start at x p last
-  dot_there start at x last m = breaks_speaks IsNoStatement 22 at
+  dot_there start at x last m = breaks_speaks IsNoStatement rule.UnfitSelector at
 
   at_there : (at : Pos) (i : Judged Valued) (m : Meant) → There i → No (step_index (map_of u) at i m)
   at_there at i (means.Place p) h = as_place (index (map_of u) at p i) (index_there (map_of u) q.quiet.held at p i h)
-  at_there at i m h = noted_breaks IsNoStatement i.notes 22 at
+  at_there at i m h = noted_breaks IsNoStatement i.notes rule.UnfitSelector at
 
   up_there : (at : Pos) (m : Meant) → No (step_up u at m)
   up_there at (means.Place p) = as_place (dereference (map_of u) at p) (dereference_there (map_of u) q.quiet.held at p)
   up_there at (means.Bound c) = super_there (map_of u) q.quiet.held at c u.receiver
-  up_there at m = breaks_speaks IsNoStatement 22 at
+  up_there at m = breaks_speaks IsNoStatement rule.UnfitSelector at
 
   -- a selector whose parts have nodes, or break a rule
   abbrev pub BehindThere : Behind → Type 0
@@ -274,17 +276,17 @@ module _ (u : Around) (q : Quiet u) where
     pub what : k.what ≡ e
 
   variable_by : (x : List ℕ) (b : Bool) (at : Pos) (e : Entity) → NameIs x e → Speaks (NameIs x) (variable_known b at e)
-  variable_by x true at e h = breaks_speaks (NameIs x) 8 at
+  variable_by x true at e h = breaks_speaks (NameIs x) rule.OuterVariable at
   variable_by x false at e h = λ n. h
 
   entity_by : (x : List ℕ) (at : Pos) (scope : ℕ) (e : Entity) → IsKnown e → NameIs x e → Speaks (NameIs x) (entity_known u at scope e)
-  entity_by x at scope entity.LeftOut h i = breaks_speaks (NameIs x) 7 at
+  entity_by x at scope entity.LeftOut h i = breaks_speaks (NameIs x) rule.LeftOut at
   entity_by x at scope entity.Unsound h i = absurd h
   entity_by x at scope (entity.Variable v t) h i = variable_by x (is_enclosing u scope) at (entity.Variable v t) i
   entity_by x at scope e h i = λ n. i
 
   name_by : (x : List ℕ) (at : Pos) (o : Option Known) → find_name u.known x ≡ o → Speaks (NameIs x) (name_known u at o)
-  name_by x at None e = breaks_speaks (NameIs x) 2 at
+  name_by x at None e = breaks_speaks (NameIs x) rule.NotDeclared at
   name_by x at (Some k) e = entity_by x at k.scope k.what (found_in (λ k. IsKnown k.what) u.known x k known_there e) (record { k = k; found = e; what = refl })
 
   pub named_there : (x : Ident) → Speaks (NameIs x.name) (named u x)
@@ -314,10 +316,10 @@ module _ (u : Around) (q : Quiet u) where
   exported_there x k m start at y (desc.Const v) f w s = λ n. tt
   exported_there x k m start at y (desc.Var mk t) f w s = variable_there x (Some y) start (variable.Module m y.name) t (is_read_only mk) (behind_dot k m y mk f w refl s)
   exported_there x k m start at y (desc.Proc g) f w s = λ n. tt
-  exported_there x k m start at y d f w s = breaks_speaks (FrontIs x (Some y)) 3 at
+  exported_there x k m start at y d f w s = breaks_speaks (FrontIs x (Some y)) rule.WrongKind at
 
   out_by : (x : List ℕ) (dot : Option Ident) (at : Pos) (o : Option OutProcedure) → Speaks (FrontIs x dot) (out_meant at o)
-  out_by x dot at None = breaks_speaks (FrontIs x dot) 2 at
+  out_by x dot at None = breaks_speaks (FrontIs x dot) rule.NotDeclared at
   out_by x dot at (Some p) = λ n. tt
 
   module_by : (x : List ℕ) (b : Bool) (k : Known) (m : List ℕ) (start : Pos) (y : Ident) → find_name u.known x ≡ Some k → k.what ≡ entity.Module m → Speaks (FrontIs x (Some y)) (in_module b u start m y)
@@ -328,7 +330,7 @@ module _ (u : Around) (q : Quiet u) where
       (λ e h. exported_there x k m start y.pos y e.1 f w (is_shown (u.shown n) e.1 h))
 
   dotted : (x : List ℕ) (k : Known) (m : List ℕ) (at : Pos) (dot : Option Ident) → find_name u.known x ≡ Some k → k.what ≡ entity.Module m → Speaks (FrontIs x dot) (module_front u at m dot)
-  dotted x k m at None f w = breaks_speaks (FrontIs x None) 3 at
+  dotted x k m at None f w = breaks_speaks (FrontIs x None) rule.WrongKind at
   dotted x k m at (Some y) f w = module_by x (is_out m) k m at y f w
 
   front_by : (x : Ident) (k : Known) (e : Entity) (dot : Option Ident) → find_name u.known x.name ≡ Some k → k.what ≡ e → Speaks (FrontIs x.name dot) (front_of u x e dot)
@@ -338,7 +340,7 @@ module _ (u : Around) (q : Quiet u) where
   front_by x k (entity.Forward name s) dot f w = λ n. tt
   front_by x k (entity.Predeclared g) dot f w = λ n. tt
   front_by x k (entity.Module m) dot f w = dotted x.name k m x.pos dot f w
-  front_by x k e dot f w = breaks_speaks (FrontIs x.name dot) 3 x.pos
+  front_by x k e dot f w = breaks_speaks (FrontIs x.name dot) rule.WrongKind x.pos
 
   -- the front, and what is left behind it
   pub record FrontThere (x : Ident) (bs : List Behind) (p : Meant × List Behind) : Type 0 where

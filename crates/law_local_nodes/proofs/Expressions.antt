@@ -1,5 +1,5 @@
 -- Expressions have a node, or break a rule, by induction over the tree of the grammar.
-use Rattle.std.proofs.Common.{sym, subst, ℕ, Bool, true, false, not, List, [], ◌∷◌, map, Option, Some, None}
+use Rattle.std.proofs.Common.{sym, subst, Bool, true, false, not, List, [], ◌∷◌, map, Option, Some, None}
 use Rattle.std.specs.Prelude.{nat_le, pos}
 use Rattle.std.specs.List.{AllByRecursion}
 use Rattle.ob_tree.specs.declared.pos.Pos.{Pos}
@@ -27,6 +27,7 @@ use Rattle.ob_rules.specs.declared.meant.Meant.TheVariants as means
 use Rattle.ob_rules.specs.declared.meant.Where.{Where}
 use Rattle.ob_rules.specs.declared.meant.Where.TheVariants.{InExpression}
 use Rattle.ob_rules.specs.declared.values.Valued.{Valued}
+use Rattle.ob_rules.specs.declared.broken.Rule.TheVariants as rule
 use Rattle.ob_rules.specs.Judged.{Judged, sound, breaks, also, wants, both, each_sound, made, ◌▷◌}
 use Rattle.ob_rules.specs.Shapes.{Map}
 use Rattle.ob_rules.specs.Names.{Around, map_of, type_named}
@@ -45,7 +46,7 @@ use Rattle.law_lists.proofs.Lists.{Anything}
 
 procedure_there : (b : Bool) (at : Pos) (name : QName) (x : Valued) → There (procedure_value b at name x)
 procedure_there true at name x = λ n. tt
-procedure_there false at name x = breaks_speaks {A = Valued} Anything 39 at
+procedure_there false at name x = breaks_speaks {A = Valued} Anything rule.UnfitProcedureValue at
 
 pub value_there : (at : Pos) (m : Meant) → Fits InExpression m → There (value_meant at m)
 value_there at (means.Place p) h = λ n. tt
@@ -53,7 +54,7 @@ value_there at (means.Constant v) h = λ n. tt
 value_there at (means.Procedure name s) h = procedure_there (is_value name) at name (computed (e.Procedure name s) (kind.Procedure s))
 value_there at (means.Call x) h = λ n. tt
 value_there at (means.Statement s) h = absurd h
-value_there at m h = breaks_speaks {A = Valued} Anything 39 at
+value_there at m h = breaks_speaks {A = Valued} Anything rule.UnfitProcedureValue at
 
 module _ (u : Around) (q : Quiet u) where
   abbrev Ph : Phrase → Type 0
@@ -83,18 +84,18 @@ module _ (u : Around) (q : Quiet u) where
       (then_speaks (λ p. Unit {0} × Unit {0}) Anything (both i (t.operand.value u)) (λ p. combined (map_of u) t.operator t.at p.0 p.1) (both_speak Anything Anything i (t.operand.value u) k h.0.value) (λ p r. combined_there (map_of u) t.operator t.at p.0 p.1))
 
   tests : (at : Pos) (x : Valued) (t : TypeRef) → There (test (map_of u) at x t)
-  tests at x t = found_there 23 at (test_of (map_of u) x t (record_if (map_of u) (type_in (type x))))
+  tests at x t = found_there rule.UnfitTypeTest at (test_of (map_of u) x t (record_if (map_of u) (type_in (type x))))
 
   untested : (at : Pos) (i : Judged Valued) → There i → There (untestable (map_of u) at i)
-  untested at i h = then_speaks Anything Anything i (λ x. wants (testable (map_of u) x) 23 at x) h (λ x k. wants_speaks Anything (testable (map_of u) x) 23 at x tt)
+  untested at i h = then_speaks Anything Anything i (λ x. wants (testable (map_of u) x) rule.UnfitTypeTest at x) h (λ x k. wants_speaks Anything (testable (map_of u) x) rule.UnfitTypeTest at x tt)
 
   tested : (at : Pos) (i : Judged Valued) (r : Phrase) (o : Option Qualident) → There i → Ph r → There (is_test u at i r o)
   tested at i r (Some k) h l =
       then_speaks (λ p. Unit {0} × Unit {0}) Anything (both (untestable (map_of u) at i) (type_named u k)) (λ p. test (map_of u) at p.0 p.1)
       (both_speak Anything Anything (untestable (map_of u) at i) (type_named u k) (untested at i h) (name_speaks u k (known_there u q))) (λ p m. tests at p.0 p.1)
   tested at i r None h l =
-      then_speaks (λ p. Unit {0} × Unit {0}) Anything (both i (r.value u)) (λ p. also (not (testable (map_of u) p.0)) 23 at (breaks 21 at)) (both_speak Anything Anything i (r.value u) h l.value)
-      (λ p m. also_speaks Anything (not (testable (map_of u) p.0)) 23 at (breaks 21 at) (breaks_speaks {A = Valued} Anything 21 at))
+      then_speaks (λ p. Unit {0} × Unit {0}) Anything (both i (r.value u)) (λ p. also (not (testable (map_of u) p.0)) rule.UnfitTypeTest at (breaks rule.UnfitOperands at)) (both_speak Anything Anything i (r.value u) h l.value)
+      (λ p m. also_speaks Anything (not (testable (map_of u) p.0)) rule.UnfitTypeTest at (breaks rule.UnfitOperands at) (breaks_speaks {A = Valued} Anything rule.UnfitOperands at))
 
   compared : (o : Relation) (at : Pos) (i : Judged Valued) (r : Phrase) → There i → Ph r → There (both i (r.value u) ▷ λ p. related (map_of u) o at p.0 p.1)
   compared o at i r h k = then_speaks (λ p. Unit {0} × Unit {0}) Anything (both i (r.value u)) (λ p. related (map_of u) o at p.0 p.1) (both_speak Anything Anything i (r.value u) h k.value) (λ p m. related_there (map_of u) o at p.0 p.1)
@@ -179,8 +180,8 @@ module _ (u : Around) (q : Quiet u) where
 
   expr_cases : (y : Expr-F SE SS SD SL ST) → PE (roll-Expr (map-Expr SE SS SD SL ST Expr Selector Designator Element Tail (λ x. x.0) (λ x. x.0) (λ x. x.0) (λ x. x.0) (λ x. x.0) y))
   expr_cases (Expr-F.Designator n) = by_layer (Expr-F.Designator n.0) (designator_there (named_of n.0) n.1)
-  expr_cases (Expr-F.Int at text) = by_layer (Expr-F.Int at text) (phrase_there at (λ u. integer_literal at (integer_text text)) (wants_speaks Anything (nat_le (integer_text text) 2147483647) 9 at (constant (literal.Int (pos (integer_text text)))) tt))
-  expr_cases (Expr-F.Char at text) = by_layer (Expr-F.Char at text) (phrase_there at (λ u. char_literal at (marked 0 text)) (wants_speaks Anything (nat_le (marked 0 text) 255) 9 at (constant (literal.Char (marked 0 text))) tt))
+  expr_cases (Expr-F.Int at text) = by_layer (Expr-F.Int at text) (phrase_there at (λ u. integer_literal at (integer_text text)) (wants_speaks Anything (nat_le (integer_text text) 2147483647) rule.LiteralTooLarge at (constant (literal.Int (pos (integer_text text)))) tt))
+  expr_cases (Expr-F.Char at text) = by_layer (Expr-F.Char at text) (phrase_there at (λ u. char_literal at (marked 0 text)) (wants_speaks Anything (nat_le (marked 0 text) 255) rule.LiteralTooLarge at (constant (literal.Char (marked 0 text))) tt))
   expr_cases (Expr-F.Str at text) = by_layer (Expr-F.Str at text) (phrase_there at (λ u. sound (constant (text_value text))) (λ n. tt))
   expr_cases (Expr-F.Nil at) = by_layer (Expr-F.Nil at) (phrase_there at (λ u. sound (constant literal.Nil)) (λ n. tt))
   expr_cases (Expr-F.Set at xs) =

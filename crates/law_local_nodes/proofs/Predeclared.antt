@@ -29,6 +29,7 @@ use Rattle.ob_rules.specs.declared.broken.Predeclared.{Predeclared}
 use Rattle.ob_rules.specs.declared.broken.Predeclared.TheVariants as pre
 use Rattle.ob_rules.specs.declared.values.Place.{Place}
 use Rattle.ob_rules.specs.declared.values.Valued.{Valued}
+use Rattle.ob_rules.specs.declared.broken.Rule.TheVariants as rule
 use Rattle.ob_rules.specs.Judged.{Judged, sound, breaks, also, wants, unless, each_sound, made, ◌▷◌}
 use Rattle.ob_rules.specs.Shapes.{Map, array_of, pointed, is_held, record_of}
 use Rattle.ob_rules.specs.Names.{Around, map_of, type_named}
@@ -237,11 +238,11 @@ fit_good map h f at (x ∷ y ∷ []) = two_good map h f at x y
 fit_good map h f at (x ∷ y ∷ z ∷ zs) = tt
 
 or_breaks : (b : Bool) (at : Pos) (o : Option (Judged Meant)) → Good b o → Speaks (FitsBy b) (if_fit at o)
-or_breaks b at None h = breaks_speaks (FitsBy b) 28 at
+or_breaks b at None h = breaks_speaks (FitsBy b) rule.UnfitPredeclaredParameters at
 or_breaks b at (Some j) h = h
 
 -- where it stands
-placed : (w : Where) (b : Bool) (at : Pos) (j : Judged Meant) → Speaks (FitsBy b) j → Speaks (Comes w) (also (misplaced w b) 27 at j)
+placed : (w : Where) (b : Bool) (at : Pos) (j : Judged Meant) → Speaks (FitsBy b) j → Speaks (Comes w) (also (misplaced w b) rule.MisplacedCall at j)
 placed InExpression true at j h = h
 placed InExpression false at j h = λ e. not_empty _ j.notes.broken e
 placed AsStatement true at j h = λ e. not_empty _ j.notes.broken e
@@ -253,9 +254,9 @@ placed Elsewhere false at j h = h
 
 module _ (u : Around) (known : AreKnown u.known) where
   changed_of : (start : Pos) (m : Meant) → There (changed_meant start m)
-  changed_of start (means.Place p) = unless_speaks Anything p.read_only 26 start (value_at p) tt
+  changed_of start (means.Place p) = unless_speaks Anything p.read_only rule.NotChangeable start (value_at p) tt
   changed_of start (means.Call x) = λ e. tt
-  changed_of start m = breaks_speaks {A = Valued} Anything 26 start
+  changed_of start m = breaks_speaks {A = Valued} Anything rule.NotChangeable start
 
   changed_there : (p : Phrase) → There (p.value u) → (o : Option (Around → Judged Meant)) → MeantThere u o → There (changed_as u p o)
   changed_there p h None k = made_speaks Anything Anything only_value (p.value u) h (λ x t. tt)
@@ -264,7 +265,7 @@ module _ (u : Around) (known : AreKnown u.known) where
   parameter_there : (a : Asked) (p : Phrase) → PhraseThere u p → There (parameter u a p)
   parameter_there asked.Value p h = h.value
   parameter_there asked.Changed p h = changed_there p h.value p.meant h.meant
-  parameter_there asked.Constant p h = then_speaks Anything Anything (p.value u) (λ x. wants (is_some (constant_in x)) 10 p.start x) h.value (λ x t. wants_speaks Anything (is_some (constant_in x)) 10 p.start x tt)
+  parameter_there asked.Constant p h = then_speaks Anything Anything (p.value u) (λ x. wants (is_some (constant_in x)) rule.NotConstant p.start x) h.value (λ x t. wants_speaks Anything (is_some (constant_in x)) rule.NotConstant p.start x tt)
 
   values_there : (ps : List Phrase) → PhrasesThere u ps → AllByRecursion There (values u ps)
   values_there [] h = tt
@@ -286,18 +287,18 @@ module _ (u : Around) (known : AreKnown u.known) where
 
   extreme_there : (max : Bool) (at : Pos) (t : Option TypeRef) (b : Option Basic) → Speaks IsCall (extreme_of max at t b)
   extreme_there max at (Some t) (Some b) = λ e. tt
-  extreme_there max at (Some t) None = breaks_speaks IsCall 28 at
-  extreme_there max at None b = breaks_speaks IsCall 28 at
+  extreme_there max at (Some t) None = breaks_speaks IsCall rule.UnfitPredeclaredParameters at
+  extreme_there max at None b = breaks_speaks IsCall rule.UnfitPredeclaredParameters at
 
   extremes : (max : Bool) (w : Where) (at : Pos) (ps : List Phrase) → PhrasesThere u ps → Speaks (Comes w) (extreme_call max u w at ps)
-  extremes max w at [] h = placed w true at (breaks 28 at) (breaks_speaks IsCall 28 at)
+  extremes max w at [] h = placed w true at (breaks rule.UnfitPredeclaredParameters at) (breaks_speaks IsCall rule.UnfitPredeclaredParameters at)
   extremes max w at (p ∷ []) h =
-      then_speaks Anything (Comes w) (type_parameter u p p.name) (λ t. also (misplaced w true) 27 at (extreme_of max at t (basic_if (map_of u) t))) (type_there p h.0.value p.name)
+      then_speaks Anything (Comes w) (type_parameter u p p.name) (λ t. also (misplaced w true) rule.MisplacedCall at (extreme_of max at t (basic_if (map_of u) t))) (type_there p h.0.value p.name)
       (λ t k. placed w true at (extreme_of max at t (basic_if (map_of u) t)) (extreme_there max at t (basic_if (map_of u) t)))
   extremes max w at (p ∷ q ∷ ps) h =
-      then_speaks Anything (Comes w) (type_parameter u p p.name) (λ t. each_sound (values u (q ∷ ps)) ▷ λ xs. also (misplaced w true) 27 at (breaks 28 at)) (type_there p h.0.value p.name)
-      (λ t k. then_speaks Anything (Comes w) (each_sound (values u (q ∷ ps))) (λ xs. also (misplaced w true) 27 at (breaks 28 at)) (each_speaks (values u (q ∷ ps)) (values_there (q ∷ ps) h.1))
-      (λ xs k. placed w true at (breaks 28 at) (breaks_speaks IsCall 28 at)))
+      then_speaks Anything (Comes w) (type_parameter u p p.name) (λ t. each_sound (values u (q ∷ ps)) ▷ λ xs. also (misplaced w true) rule.MisplacedCall at (breaks rule.UnfitPredeclaredParameters at)) (type_there p h.0.value p.name)
+      (λ t k. then_speaks Anything (Comes w) (each_sound (values u (q ∷ ps))) (λ xs. also (misplaced w true) rule.MisplacedCall at (breaks rule.UnfitPredeclaredParameters at)) (each_speaks (values u (q ∷ ps)) (values_there (q ∷ ps) h.1))
+      (λ xs k. placed w true at (breaks rule.UnfitPredeclaredParameters at) (breaks_speaks IsCall rule.UnfitPredeclaredParameters at)))
 
   module _ (held : IsHeld (map_of u)) where
     others : (f : Predeclared) (w : Where) (at : Pos) (ps : List Phrase) → PhrasesThere u ps → Speaks (Comes w) (each_sound (parameters u f ps) ▷ call_fit u w f at)

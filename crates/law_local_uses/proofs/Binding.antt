@@ -8,6 +8,7 @@ use Rattle.ob_types.specs.declared.desc.Method.{Method}
 use Rattle.ob_types.specs.declared.desc.RecordDesc.{RecordDesc}
 use Rattle.ob_types.specs.declared.typed.TypedType.{TypedType}
 use Rattle.ob_types.specs.Maps.{listed, signature_types}
+use Rattle.ob_rules.specs.declared.broken.Rule.TheVariants as rule
 use Rattle.ob_rules.specs.Judged.{notes_if, broken_at, no_notes}
 use Rattle.ob_rules.specs.Shapes.{Map, Member, AField, AMethod, member}
 use Rattle.ob_rules.specs.Names.{Around, map_of}
@@ -57,7 +58,7 @@ module _ (g : Given) (Q : TypedType → Type 0) (stays : Stays g Q) where
     pub notes : Names g s.notes
 
   redefined_ok : (b : Bool) (s : Binding) (h : Head) (b' : BoundAs) → BindingOk s → BindingOk (redefined b s h b')
-  redefined_ok true s h b' k = record { own = k.own; notes = both_name g s.notes (broken_at 20 h.at) k.notes none }
+  redefined_ok true s h b' k = record { own = k.own; notes = both_name g s.notes (broken_at rule.UnmatchedRedefinition h.at) k.notes none }
   redefined_ok false s h b' k = record { own = k.own; notes = k.notes }
 
   method_ok : (b : Bool) (u : Around) (map : Map) (s : Binding) (h : Head) (b' : BoundAs) (o : QName) (m : Method) → BindingOk s → BindingOk (bind_method b u map s h b' o m)
@@ -66,7 +67,7 @@ module _ (g : Given) (Q : TypedType → Type 0) (stays : Stays g Q) where
 
   by_ok : (u : Around) (map : Map) (s : Binding) (h : Head) → IfThere (ParametersOk g) h.parameters → (b : BoundAs) (o : Option Member) → BindingOk s → BindingOk (bind_by u map s h b o)
   by_ok u map s h p b None k = record { own = changed b.owner.object (new_method h b) (signature_held h.parameters p) s.own k.own; notes = k.notes }
-  by_ok u map s h p b (Some (AField o f)) k = record { own = k.own; notes = both_name g s.notes (notes_if (not h.forward) 1 h.at) k.notes (if_names g (not h.forward) 1 h.at) }
+  by_ok u map s h p b (Some (AField o f)) k = record { own = k.own; notes = both_name g s.notes (notes_if (not h.forward) rule.DeclaredTwice h.at) k.notes (if_names g (not h.forward) rule.DeclaredTwice h.at) }
   by_ok u map s h p b (Some (AMethod o m)) k = method_ok (bytes_eq o.object b.owner.object && bytes_eq o.module u.unit) u map s h b o m k
 
   one_ok : (u : Around) (s : Binding) (h : Head) → IfThere (ParametersOk g) h.parameters → (o : Option BoundAs) → BindingOk s → BindingOk (bind_one u s h o)

@@ -29,6 +29,7 @@ use Rattle.ob_types.specs.Maps.{listed}
 use Rattle.ob_rules.specs.declared.entity.Entity.{Entity}
 use Rattle.ob_rules.specs.declared.entity.Known.{Known}
 use Rattle.ob_rules.specs.declared.entity.Received.{Received}
+use Rattle.ob_rules.specs.declared.broken.Rule.TheVariants as rule
 use Rattle.ob_rules.specs.Judged.{Judged, Notes, no_notes, notes_if, joined, both, ◌▷◌}
 use Rattle.ob_rules.specs.Shapes.{Member, AField, AMethod, member}
 use Rattle.ob_rules.specs.Names.{Around, map_of, found_in_scope}
@@ -113,7 +114,7 @@ declare_own (Some k) u x e = refl
 declare_own None u x e = refl
 
 twice_names : (g : Given) (u : Around) (x : Ident) → Names g (twice u x)
-twice_names g u x = if_names g (is_some (found_in_scope u x.name)) 1 x.pos
+twice_names g u x = if_names g (is_some (found_in_scope u x.name)) rule.DeclaredTwice x.pos
 
 -- one that adds no types
 own_plain : (g : Given) (u : Around) (x : Ident) (e : Entity) (ts : List TypedType) → AreThere g u.own → AreThere g ts → AreThere g (declare u x e).own
@@ -256,7 +257,7 @@ imports_good g (i ∷ is) = (
       let t = target_of i in
       let e = import_entity (is_system t.name) t in
       record {
-        part = notes_ok g (joined (notes_if (is_system t.name) 5 t.pos) (twice u i.ident)) (both_name g (notes_if (is_system t.name) 5 t.pos) (twice u i.ident) (if_names g (is_system t.name) 5 t.pos) (twice_names g u i.ident));
+        part = notes_ok g (joined (notes_if (is_system t.name) rule.ReservedModule t.pos) (twice u i.ident)) (both_name g (notes_if (is_system t.name) rule.ReservedModule t.pos) (twice u i.ident) (if_names g (is_system t.name) rule.ReservedModule t.pos) (twice_names g u i.ident));
         around = declare_fine g (found_in_scope u i.ident.name) u f i.ident e (import_means g (is_system t.name) t);
         own = own_plain g u i.ident e [];
       }),

@@ -32,6 +32,7 @@ use Rattle.ob_rules.specs.declared.meant.Chosen.{Chosen}
 use Rattle.ob_rules.specs.declared.meant.Meant.{Meant}
 use Rattle.ob_rules.specs.declared.meant.Meant.TheVariants as means
 use Rattle.ob_rules.specs.declared.meant.Where.{Where}
+use Rattle.ob_rules.specs.declared.broken.Rule.TheVariants as rule
 use Rattle.ob_rules.specs.Judged.{Judged, sound, both, also, wants}
 use Rattle.ob_rules.specs.Shapes.{Map, is_array, is_open, is_record, open_element, by_var, passing_of}
 use Rattle.ob_rules.specs.Names.{Around, map_of}
@@ -103,9 +104,9 @@ designator_e k p h = named_e k _ (ValueOf (designator_view p.designator.inner)) 
 
 variable_keeps : (k : Setting) (map : Map) (t : TypeRef) (start : Pos) (p : Place) → PlaceOk k p → In k t → Keeps k (ActualOk k) (variable_actual map t start p)
 variable_keeps k map t start p h i =
-    also_keeps k (ActualOk k) _ 25 start (unless_read_only map t start p)
-    (also_keeps k (ActualOk k) p.read_only 26 start (unless_guarded map t start p)
-    (also_keeps k (ActualOk k) p.guarded 38 start (sound (actual_of (passing_of map mode.Var t) t (e.Designator p.designator.inner))) (actual_ok k (passing_of map mode.Var t) t (e.Designator p.designator.inner) (designator_e k p h) (room_var k map t (expr_view (e.Designator p.designator.inner))) i, none)))
+    also_keeps k (ActualOk k) _ rule.UnfitParameter start (unless_read_only map t start p)
+    (also_keeps k (ActualOk k) p.read_only rule.NotChangeable start (unless_guarded map t start p)
+    (also_keeps k (ActualOk k) p.guarded rule.GuardedVarParameter start (sound (actual_of (passing_of map mode.Var t) t (e.Designator p.designator.inner))) (actual_ok k (passing_of map mode.Var t) t (e.Designator p.designator.inner) (designator_e k p h) (room_var k map t (expr_view (e.Designator p.designator.inner))) i, none)))
 
 meant_keeps : (k : Setting) (map : Map) (t : TypeRef) (start : Pos) (m : Meant) → MeantOk k m → In k t → Keeps k (ActualOk k) (meant_actual map t start m)
 meant_keeps k map t start (means.Place p) h i = variable_keeps k map t start p h i
@@ -122,7 +123,7 @@ tree_for_ok k false x h = tree_ok k x h
 
 value_keeps : (k : Setting) (u : Around) → Stands k u → (t : TypeRef) → In k t → (start : Pos) (x : Valued) → ValuedOk k x → Keeps k (ActualOk k) (value_actual (map_of u) t start x)
 value_keeps k u s t i start x h =
-    wants_keeps k (ActualOk k) (takes_value (map_of u) (open_element (map_of u) t) t x) 25 start (actual_of (passing_of (map_of u) mode.Value t) t (tree_for (is_array (map_of u) t) x))
+    wants_keeps k (ActualOk k) (takes_value (map_of u) (open_element (map_of u) t) t x) rule.UnfitParameter start (actual_of (passing_of (map_of u) mode.Value t) t (tree_for (is_array (map_of u) t) x))
     (λ e. actual_ok k (passing_of (map_of u) mode.Value t) t (tree_for (is_array (map_of u) t) x) (tree_for_ok k (is_array (map_of u) t) x h) (value_room k (map_of u) s.says x t (is_array (map_of u) t) h e) i)
 
 actual_keeps : (k : Setting) (u : Around) → Stands k u → (m : Mode) (t : TypeRef) → In k t → (p : Phrase) → PhraseOk k p → Keeps k (ActualOk k) (actual u m t p)
@@ -144,8 +145,8 @@ actuals_keep k u s (f ∷ fs) i (p ∷ ps) g =
 called_keeps : (k : Setting) (u : Around) → Stands k u → (w : Where) (at : Pos) (s : Signature) → AreIn k.Held (signature_types s) → (ps : List Phrase) → ArePhrases k ps → (f : List Actual → TypedExpr) → ((xs : List Actual) → AllByRecursion (ActualOk k) xs → NodeOk k (f xs)) → Keeps k (ValuedOk k) (called u w at s ps f)
 called_keeps k u st w at s i ps g f h =
     then_keeps k (AllByRecursion (ActualOk k)) (ValuedOk k) (actuals u s.params ps) (called_with w at s (length ps) f) (actuals_keep k u st s.params (left_in k.Held (map (λ f. f.1) s.params) (listed s.result) i) ps g)
-    (λ xs q. then_keeps k (AllByRecursion (ActualOk k)) (ValuedOk k) (wants _ 24 at xs) (λ ys. also (misplaced w (is_some s.result)) 27 at (sound (computed (f ys) (result_type s.result)))) (wants_keeps k (AllByRecursion (ActualOk k)) _ 24 at xs (λ e. q))
-    (λ ys r. also_keeps k (ValuedOk k) (misplaced w (is_some s.result)) 27 at (sound (computed (f ys) (result_type s.result))) (h ys r, none)))
+    (λ xs q. then_keeps k (AllByRecursion (ActualOk k)) (ValuedOk k) (wants _ rule.WrongParameterCount at xs) (λ ys. also (misplaced w (is_some s.result)) rule.MisplacedCall at (sound (computed (f ys) (result_type s.result)))) (wants_keeps k (AllByRecursion (ActualOk k)) _ rule.WrongParameterCount at xs (λ e. q))
+    (λ ys r. also_keeps k (ValuedOk k) (misplaced w (is_some s.result)) rule.MisplacedCall at (sound (computed (f ys) (result_type s.result))) (h ys r, none)))
 
 -- a call, and what counts of its formal parameters
 call_e : (k : Setting) (f : Callee) (xs : List Actual) (at : Pos) (t : Option TypeRef) → CalleeTied k.map k.unit k.Own f (actuals_view xs) → ActualsTied k.map k.unit k.Own (actuals_view xs) → CountsIn k.Held (counts_of_actuals (actuals_view xs)) → CountsIn k.Held (formals (without_receiver (has_receiver f) (actuals_view xs))) → AreIn k.Held (listed t) → NodeOk k (e.Call f xs at t)
@@ -232,7 +233,7 @@ module _ (k : Setting) (c : Chosen) (h : ChosenOk k c) where
 bound_keeps : (k : Setting) (b : Bool) (u : Around) → Stands k u → (w : Where) (at : Pos) (c : Chosen) (ps : List Phrase) → ArePhrases k ps → ChosenOk k c → Keeps k (ValuedOk k) (call_bound_sound b u w at c ps)
 bound_keeps k false u st w at c ps g h = then_keeps k (AllByRecursion (ActualOk k)) (ValuedOk k) (actuals u [] ps) _ (actuals_keep k u st [] tt ps g) (λ xs q. (tt, none))
 bound_keeps k true u st w at c ps g h =
-    also_keeps k (ValuedOk k) _ 26 at (called u w at c.method.signature ps (λ xs. e.Call (bound_callee c c.base) (receiver_actual c.method.receiver c ∷ xs) at c.method.signature.result))
+    also_keeps k (ValuedOk k) _ rule.NotChangeable at (called u w at c.method.signature ps (λ xs. e.Call (bound_callee c c.base) (receiver_actual c.method.receiver c ∷ xs) at c.method.signature.result))
     (called_keeps k u st w at c.method.signature h.signature ps g (λ xs. e.Call (bound_callee c c.base) (receiver_actual c.method.receiver c ∷ xs) at c.method.signature.result)
     (λ xs r. bound_call k c h c.method.receiver xs at c.base h.call r))
 

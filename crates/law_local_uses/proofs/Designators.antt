@@ -29,6 +29,7 @@ use Rattle.ob_rules.specs.declared.meant.Chosen.{Chosen}
 use Rattle.ob_rules.specs.declared.meant.Meant.{Meant}
 use Rattle.ob_rules.specs.declared.meant.Meant.TheVariants as means
 use Rattle.ob_rules.specs.declared.meant.Where.{Where}
+use Rattle.ob_rules.specs.declared.broken.Rule.TheVariants as rule
 use Rattle.ob_rules.specs.Judged.{Judged, no_notes, broken_at, sound, breaks, noted, found_or, made}
 use Rattle.ob_rules.specs.Shapes.{Map, Member, AField, AMethod, member, pointed, record_of, pointed_record, extends_record, array_of, is_array, is_held, signature_at, base_record}
 use Rattle.ob_rules.specs.Names.{Around, map_of, named, exported, is_out, out_procedure, type_named}
@@ -124,7 +125,7 @@ pub variable_keeps : (k : Setting) (u : Around) → Stands k u → (at : Pos) (v
 variable_keeps k u st at v t b h = guards_keep k (map_of u) st.named at v u.guards st.guards (sound (variable_at v t b)) (variable_ok k v t b h, none)
 
 guard_keeps : (k : Setting) (map : Map) → Naming k map → (at : Pos) (p : Place) (t : TypeRef) → In k t → PlaceOk k p → Keeps k (MeantOk k) (guard map at p t)
-guard_keeps k map n at p t i h = then_keeps k (λ (g : Guarded × QName). k.Held g.1) (MeantOk k) (found_or 23 at (guard_of map p t)) _ (found_keeps k (λ (g : Guarded × QName). k.Held g.1) 23 at (guard_of map p t) (guard_tests k map n p t i)) (λ g q. (guarded_ok k p g t at true h i q, none))
+guard_keeps k map n at p t i h = then_keeps k (λ (g : Guarded × QName). k.Held g.1) (MeantOk k) (found_or rule.UnfitTypeTest at (guard_of map p t)) _ (found_keeps k (λ (g : Guarded × QName). k.Held g.1) rule.UnfitTypeTest at (guard_of map p t) (guard_tests k map n p t i)) (λ g q. (guarded_ok k p g t at true h i q, none))
 
 -- ---- dereferences, indices and fields
 
@@ -156,8 +157,8 @@ indexed_ok k p at i a j h g =
     place_of k _ (AnIndex (designator_view p.designator.inner) a.0 (expr_view (tree i)) at a.1) a.1 (view_index p.designator.inner a.0 (tree i) at a.1) ((h.0.0, v.0), counts_both k (ds ++ es) (both_counts a.1) (counts_both k ds es h.0.1 v.1) (j, tt)) j refl
 
 into_keeps : (k : Setting) (map : Map) (at : Pos) (p : Place) (i : Judged Valued) (o : Option (Option ℕ × TypeRef)) → IfThere (λ a. In k a.1) o → PlaceOk k p → Keeps k (ValuedOk k) i → Keeps k (PlaceOk k) (index_into map at p i o)
-into_keeps k map at p i None j h g = (tt, said_both k i.notes (broken_at 22 at) g.1 none)
-into_keeps k map at p i (Some a) j h g = then_keeps k (ValuedOk k) (PlaceOk k) i _ g (λ x q. wants_keeps k (PlaceOk k) (is_integer map x) 22 at (indexed p at x a) (λ e. indexed_ok k p at x a j h q))
+into_keeps k map at p i None j h g = (tt, said_both k i.notes (broken_at rule.UnfitSelector at) g.1 none)
+into_keeps k map at p i (Some a) j h g = then_keeps k (ValuedOk k) (PlaceOk k) i _ g (λ x q. wants_keeps k (PlaceOk k) (is_integer map x) rule.UnfitSelector at (indexed p at x a) (λ e. indexed_ok k p at x a j h q))
 
 index_if_keeps : (k : Setting) (o : Option Place) (i : Judged Valued) (f : Place → Judged Place) → IfThere (PlaceOk k) o → Keeps k (ValuedOk k) i → ((p : Place) → PlaceOk k p → Keeps k (PlaceOk k) (f p)) → Keeps k (PlaceOk k) (index_if o i f)
 index_if_keeps k None i f h j g = (tt, said_both k i.notes no_notes j.1 none)
@@ -278,8 +279,8 @@ all_said k u st (Round at ps ∷ bs) g = said_both k (visited u ps) (all_visited
 all_said k u st (Dot at x ∷ bs) g = all_said k u st bs g.1
 all_said k u st (Up at ∷ bs) g = all_said k u st bs g.1
 
-visited_breaks : (k : Setting) (u : Around) → Stands k u → (at : Pos) (ps : List Phrase) → ArePhrases k ps → Keeps k (MeantOk k) (noted (visited u ps) (breaks 22 at))
-visited_breaks k u st at ps g = (tt, said_both k (visited u ps) (broken_at 22 at) (visited_said k u st ps g) none)
+visited_breaks : (k : Setting) (u : Around) → Stands k u → (at : Pos) (ps : List Phrase) → ArePhrases k ps → Keeps k (MeantOk k) (noted (visited u ps) (breaks rule.UnfitSelector at))
+visited_breaks k u st at ps g = (tt, said_both k (visited u ps) (broken_at rule.UnfitSelector at) (visited_said k u st ps g) none)
 
 -- what a procedure type says is held where the type is
 signature_ok : (k : Setting) (map : Map) → Naming k map → (t : TypeRef) → In k t → (o : Option Signature) → signature_at map t ≡ o → IfThere (λ s. AreIn k.Held (signature_types s)) o
@@ -312,8 +313,8 @@ dot_keeps : (k : Setting) (u : Around) → Stands k u → (start at : Pos) (x : 
 dot_keeps k u st start at x last (means.Place p) h = select_keeps k u st start at x p last h
 dot_keeps k u st start at x last m h = (tt, none)
 
-index_breaks : (k : Setting) (at : Pos) (i : Judged Valued) → Keeps k (ValuedOk k) i → Keeps k (MeantOk k) (noted i.notes (breaks 22 at))
-index_breaks k at i g = (tt, said_both k i.notes (broken_at 22 at) g.1 none)
+index_breaks : (k : Setting) (at : Pos) (i : Judged Valued) → Keeps k (ValuedOk k) i → Keeps k (MeantOk k) (noted i.notes (breaks rule.UnfitSelector at))
+index_breaks k at i g = (tt, said_both k i.notes (broken_at rule.UnfitSelector at) g.1 none)
 
 index_step_keeps : (k : Setting) (map : Map) → Naming k map → (at : Pos) (i : Judged Valued) (m : Meant) → MeantOk k m → Keeps k (ValuedOk k) i → Keeps k (MeantOk k) (step_index map at i m)
 index_step_keeps k map n at i (means.Place p) h g = then_keeps k (PlaceOk k) (MeantOk k) (index map at p i) (λ q. sound (means.Place q)) (index_keeps k map n at p i h g) (λ q r. (r, none))

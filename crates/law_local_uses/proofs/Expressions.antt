@@ -29,6 +29,7 @@ use Rattle.ob_rules.specs.declared.meant.Meant.{Meant}
 use Rattle.ob_rules.specs.declared.meant.Meant.TheVariants as means
 use Rattle.ob_rules.specs.declared.meant.Where.{Where}
 use Rattle.ob_rules.specs.declared.meant.Where.TheVariants.{InExpression}
+use Rattle.ob_rules.specs.declared.broken.Rule.TheVariants as rule
 use Rattle.ob_rules.specs.Judged.{Judged, also, breaks, both, each_sound, ◌▷◌}
 use Rattle.ob_rules.specs.Shapes.{Map, pointed_record}
 use Rattle.ob_rules.specs.Names.{Around, map_of, type_named}
@@ -100,10 +101,10 @@ module _ (k : Setting) (map : Map) (named : (q : QName) (d : Desc) → map q ≡
   test_of_ok x t None i h = test_record_ok x t i h
 
   test_keeps : (at : Pos) (x : Valued) (t : TypeRef) → In k t → ValuedOk k x → Keeps k (ValuedOk k) (test map at x t)
-  test_keeps at x t i h = found_keeps k (ValuedOk k) 23 at (test_of map x t (record_if map (type_in (type x)))) (test_of_ok x t (record_if map (type_in (type x))) i h)
+  test_keeps at x t i h = found_keeps k (ValuedOk k) rule.UnfitTypeTest at (test_of map x t (record_if map (type_in (type x)))) (test_of_ok x t (record_if map (type_in (type x))) i h)
 
 untestable_keeps : (k : Setting) (map : Map) (at : Pos) (j : Judged Valued) → Keeps k (ValuedOk k) j → Keeps k (ValuedOk k) (untestable map at j)
-untestable_keeps k map at j h = then_keeps k (ValuedOk k) (ValuedOk k) j _ h (λ v q. wants_keeps k (ValuedOk k) (testable map v) 23 at v (λ e. q))
+untestable_keeps k map at j h = then_keeps k (ValuedOk k) (ValuedOk k) j _ h (λ v q. wants_keeps k (ValuedOk k) (testable map v) rule.UnfitTypeTest at v (λ e. q))
 
 is_test_keeps : (k : Setting) (u : Around) → Stands k u → (at : Pos) (j : Judged Valued) (r : Phrase) → PhraseOk k r → (o : Option Qualident) → Keeps k (ValuedOk k) j → Keeps k (ValuedOk k) (is_test u at j r o)
 is_test_keeps k u s at j r pr (Some q) h =
@@ -111,8 +112,8 @@ is_test_keeps k u s at j r pr (Some q) h =
     (both_keep k (ValuedOk k) (In k) (untestable (map_of u) at j) (type_named u q) (untestable_keeps k (map_of u) at j h) (type_keeps k u s q)) (λ p g. test_keeps k (map_of u) s.named at p.0 p.1 g.1 g.0)
 is_test_keeps k u s at j r pr None h = then_keeps k (λ (p : Valued × Valued). ValuedOk k p.0 × ValuedOk k p.1) (ValuedOk k) (both j (r.value u)) _ (both_keep k (ValuedOk k) (ValuedOk k) j (r.value u) h (pr.0 u s)) (λ p g. also_none p)
   where
-    also_none : (p : Valued × Valued) → Keeps k (ValuedOk k) (also (not (testable (map_of u) p.0)) 23 at (breaks 21 at))
-    also_none p = also_keeps k (ValuedOk k) (not (testable (map_of u) p.0)) 23 at (breaks 21 at) ((tt, none))
+    also_none : (p : Valued × Valued) → Keeps k (ValuedOk k) (also (not (testable (map_of u) p.0)) rule.UnfitTypeTest at (breaks rule.UnfitOperands at))
+    also_none p = also_keeps k (ValuedOk k) (not (testable (map_of u) p.0)) rule.UnfitTypeTest at (breaks rule.UnfitOperands at) ((tt, none))
 
 -- ---- chains, relations and sets
 
@@ -207,8 +208,8 @@ module _ (k : Setting) where
 
   expr_cases : (y : Expr-F SE SS SD SL ST) → PE (roll-Expr (map-Expr SE SS SD SL ST Expr Selector Designator Element Tail (λ x. x.0) (λ x. x.0) (λ x. x.0) (λ x. x.0) (λ x. x.0) y))
   expr_cases (Expr-F.Designator n) = by_layer (Expr-F.Designator n.0) (designator_ok k (named_of n.0) n.1)
-  expr_cases (Expr-F.Int at text) = by_layer (Expr-F.Int at text) (λ u s. wants_keeps k (ValuedOk k) _ 9 at _ (λ e. tt), tt)
-  expr_cases (Expr-F.Char at text) = by_layer (Expr-F.Char at text) (λ u s. wants_keeps k (ValuedOk k) _ 9 at _ (λ e. tt), tt)
+  expr_cases (Expr-F.Int at text) = by_layer (Expr-F.Int at text) (λ u s. wants_keeps k (ValuedOk k) _ rule.LiteralTooLarge at _ (λ e. tt), tt)
+  expr_cases (Expr-F.Char at text) = by_layer (Expr-F.Char at text) (λ u s. wants_keeps k (ValuedOk k) _ rule.LiteralTooLarge at _ (λ e. tt), tt)
   expr_cases (Expr-F.Str at text) = by_layer (Expr-F.Str at text) (λ u s. (tt, none), tt)
   expr_cases (Expr-F.Nil at) = by_layer (Expr-F.Nil at) (λ u s. (tt, none), tt)
   expr_cases (Expr-F.Set at xs) =

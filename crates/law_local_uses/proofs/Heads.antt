@@ -17,6 +17,7 @@ use Rattle.ob_types.specs.declared.typed.TypedType.{TypedType}
 use Rattle.ob_types.specs.Maps.{signature_types}
 use Rattle.ob_types.specs.Tests.{target, shape_at}
 use Rattle.ob_rules.specs.declared.entity.Known.{Known}
+use Rattle.ob_rules.specs.declared.broken.Rule.TheVariants as rule
 use Rattle.ob_rules.specs.Judged.{broken_at, both}
 use Rattle.ob_rules.specs.Shapes.{Map, record_at, record_if, pointed, same_name}
 use Rattle.ob_rules.specs.Names.{Around, map_of, type_desc, own_desc, in_unit, out_string, type_named}
@@ -204,7 +205,7 @@ behind_own u true h = refl
 behind_own u false h = procedure_own u h h.is_bound
 
 declared_ok : (g : Given) (b : Bool) (h : Head) (u : Around) → HeadOk g h → AreKnown g u.known → IsSound g (declared_head b h u) → HeadOk g (declared_head b h u) × AreThere g (types_of h.parameters)
-declared_ok g true h u k n s = let e = back_empty h.notes.broken (broken_at 1 h.at).broken s.0 in absurd cc
+declared_ok g true h u k n s = let e = back_empty h.notes.broken (broken_at rule.DeclaredTwice h.at).broken s.0 in absurd cc
 declared_ok g false h u k n s = (record { parameters = k.parameters; bound = k.bound; notes = k.notes; inside = k.inside; known = n }, subst (AreThere g) (types_same h.parameters) s.1)
 
 add_good : (g : Given) (hs : Heads) → HeadsOk g hs → (w : WrittenHeading) → GoodSections g w.parameters → (forward : Bool) → AllByRecursion (IsSound g) (add_heading hs w forward).before → HeadsOk g (add_heading hs w forward)

@@ -9,6 +9,7 @@ use Rattle.ob_tree.specs.declared.decl.Module.{Module as Tree}
 use Rattle.ob_types.specs.declared.desc.Desc.{Desc}
 use Rattle.ob_types.specs.declared.typed.TypedType.{TypedType}
 use Rattle.ob_types.specs.declared.typed.TypedModule.{TypedModule}
+use Rattle.ob_rules.specs.declared.broken.Rule.TheVariants as rule
 use Rattle.ob_rules.specs.Judged.{notes_if}
 use Rattle.ob_rules.specs.Shapes.{Map}
 use Rattle.ob_rules.specs.Names.{Around, own_desc, predeclared, is_out}
@@ -58,7 +59,7 @@ module _ (shown : QName → Option Desc) (tree : Tree) where
       let quiet = back_empty imports.part.notes.broken whole.notes.broken behind in
       let types = subst (λ ts. AreThere g (ts ++ whole.contents.types)) (import_types tree.imports start) t in
       let b = block_ok g (map declaration tree.decls) (decls_good g tree.decls) (map judging tree.body) (stmts_ok (there g) tree.body) imports.around d.around own quiet types in
-      part_both g (only_notes (name_judged tree.name tree.closing)) (with_part imports.part whole) (record { contents = record { types = tt; variables = tt; procedures = tt; body = tt; bound = (tt, tt) }; notes = both_name g (notes_if (is_out tree.name.name || is_system tree.name.name) 5 tree.name.pos) (closing_judged tree.name.name (Some tree.closing)) (if_names g (is_out tree.name.name || is_system tree.name.name) 5 tree.name.pos) (closing_names g tree.name.name (Some tree.closing)) }) (part_both g imports.part whole d.part b)
+      part_both g (only_notes (name_judged tree.name tree.closing)) (with_part imports.part whole) (record { contents = record { types = tt; variables = tt; procedures = tt; body = tt; bound = (tt, tt) }; notes = both_name g (notes_if (is_out tree.name.name || is_system tree.name.name) rule.ReservedModule tree.name.pos) (closing_judged tree.name.name (Some tree.closing)) (if_names g (is_out tree.name.name || is_system tree.name.name) rule.ReservedModule tree.name.pos) (closing_names g tree.name.name (Some tree.closing)) }) (part_both g imports.part whole d.part b)
 
 -- ---- types with the bound procedures that they introduce
 

@@ -6,6 +6,8 @@ use Rattle.ob_tree.specs.declared.pos.Pos.{Pos}
 use Rattle.ob_tree.specs.declared.ident.Ident.{Ident}
 use Rattle.ob_rules.specs.declared.notes.Later.{Later}
 use Rattle.ob_rules.specs.declared.notes.Later.TheVariants as later
+use Rattle.ob_rules.specs.declared.broken.Rule.TheVariants as rule
+use Rattle.ob_rules.specs.declared.broken.Rule.{Rule}
 use Rattle.ob_rules.specs.Judged.{Notes, notes_if, joined, no_notes}
 use Rattle.ob_rules.specs.Shapes.{Map}
 use Rattle.ob_rules.specs.Names.{Around, map_of, is_among}
@@ -17,9 +19,9 @@ use Rattle.law_local_uses.proofs.Around.{Given, base}
 abbrev pub Names : Given → Notes → Type 0
 Names g n = Said (base g) n
 
-pub if_names : (g : Given) (b : Bool) (rule : ℕ) (at : Pos) → Names g (notes_if b rule at)
-if_names g true rule at = none
-if_names g false rule at = none
+pub if_names : (g : Given) (b : Bool) (which : Rule) (at : Pos) → Names g (notes_if b which at)
+if_names g true which at = none
+if_names g false which at = none
 
 pub both_name : (g : Given) (a b : Notes) → Names g a → Names g b → Names g (joined a b)
 both_name g a b h i = said_both (base g) a b h i
@@ -64,14 +66,14 @@ pointers_name g u ls = all_ok g u (filter is_pointer_left ls) (filter is_pointer
 
 field_names : (g : Given) (map : Map) (l : Later) → Names g (field_judged map l)
 field_names g map (later.PointsTo x at t inline) = none
-field_names g map (later.Inherits x t) = if_names g _ 1 x.pos
+field_names g map (later.Inherits x t) = if_names g _ rule.DeclaredTwice x.pos
 
 pub fields_name : (g : Given) (map : Map) (ls : List Later) → Names g (all_judged (field_judged map) ls)
 fields_name g map [] = none
 fields_name g map (l ∷ ls) = both_name g (field_judged map l) (all_judged (field_judged map) ls) (field_names g map l) (fields_name g map ls)
 
 forward_names : (g : Given) (map : Map) (all : List Head) (h : Head) (b : Bool) → Names g (forward_if b map all h)
-forward_names g map all h true = if_names g (forward_broken map h (find (answers h) all)) 18 h.at
+forward_names g map all h true = if_names g (forward_broken map h (find (answers h) all)) rule.UnmatchedForward h.at
 forward_names g map all h false = none
 
 pub forwards_name : (g : Given) (map : Map) (all hs : List Head) → Names g (forwards_judged map all hs)
@@ -80,4 +82,4 @@ forwards_name g map all (h ∷ hs) = both_name g (forward_if h.forward map all h
 
 pub closing_names : (g : Given) (x : List ℕ) (o : Option Ident) → Names g (closing_judged x o)
 closing_names g x None = none
-closing_names g x (Some c) = if_names g _ 4 c.pos
+closing_names g x (Some c) = if_names g _ rule.WrongClosingName c.pos

@@ -22,6 +22,7 @@ use Rattle.ob_rules.specs.declared.values.Valued.TheVariants as valued
 use Rattle.ob_rules.specs.declared.meant.Chosen.{Chosen}
 use Rattle.ob_rules.specs.declared.meant.Meant.{Meant}
 use Rattle.ob_rules.specs.declared.meant.Meant.TheVariants as means
+use Rattle.ob_rules.specs.declared.broken.Rule.{Rule}
 use Rattle.ob_rules.specs.Judged.{Judged, Notes, joined, sound, if_sound, paired, both, made, each_sound, unless, wants, also, found_or, judge_later, noted, ◌▷◌}
 use Rattle.ob_rules.specs.Shapes.{Map}
 use Rattle.ob_rules.specs.Names.{Around}
@@ -153,19 +154,19 @@ pub each_keep : (k : Setting) {A : Type 0} (Q : A → Type 0) (js : List (Judged
 each_keep k Q [] h = (tt, none)
 each_keep k Q (j ∷ js) h = made_keeps k (λ p. Q p.0 × AllByRecursion Q p.1) (AllByRecursion Q) (λ p. p.0 ∷ p.1) (both j (each_sound js)) (both_keep k Q (AllByRecursion Q) j (each_sound js) h.0 (each_keep k Q js h.1)) (λ p q. q)
 
-pub unless_keeps : (k : Setting) {A : Type 0} (Q : A → Type 0) (b : Bool) (rule : ℕ) (at : Pos) (x : A) → Q x → Keeps k Q (unless b rule at x)
+pub unless_keeps : (k : Setting) {A : Type 0} (Q : A → Type 0) (b : Bool) (rule : Rule) (at : Pos) (x : A) → Q x → Keeps k Q (unless b rule at x)
 unless_keeps k Q true rule at x h = (tt, none)
 unless_keeps k Q false rule at x h = (h, none)
 
-pub wants_keeps : (k : Setting) {A : Type 0} (Q : A → Type 0) (b : Bool) (rule : ℕ) (at : Pos) (x : A) → (b ≡ true → Q x) → Keeps k Q (wants b rule at x)
+pub wants_keeps : (k : Setting) {A : Type 0} (Q : A → Type 0) (b : Bool) (rule : Rule) (at : Pos) (x : A) → (b ≡ true → Q x) → Keeps k Q (wants b rule at x)
 wants_keeps k Q true rule at x h = (h refl, none)
 wants_keeps k Q false rule at x h = (tt, none)
 
-pub found_keeps : (k : Setting) {A : Type 0} (Q : A → Type 0) (rule : ℕ) (at : Pos) (o : Option A) → IfThere Q o → Keeps k Q (found_or rule at o)
+pub found_keeps : (k : Setting) {A : Type 0} (Q : A → Type 0) (rule : Rule) (at : Pos) (o : Option A) → IfThere Q o → Keeps k Q (found_or rule at o)
 found_keeps k Q rule at None h = (tt, none)
 found_keeps k Q rule at (Some x) h = (h, none)
 
-pub also_keeps : (k : Setting) {A : Type 0} (Q : A → Type 0) (b : Bool) (rule : ℕ) (at : Pos) (j : Judged A) → Keeps k Q j → Keeps k Q (also b rule at j)
+pub also_keeps : (k : Setting) {A : Type 0} (Q : A → Type 0) (b : Bool) (rule : Rule) (at : Pos) (j : Judged A) → Keeps k Q j → Keeps k Q (also b rule at j)
 also_keeps k Q true rule at j h = (tt, h.1)
 also_keeps k Q false rule at j h = h
 

@@ -33,6 +33,7 @@ use Rattle.ob_rules.specs.declared.meant.Meant.{Meant}
 use Rattle.ob_rules.specs.declared.meant.Meant.TheVariants as means
 use Rattle.ob_rules.specs.declared.meant.Selects.{Selects}
 use Rattle.ob_rules.specs.declared.meant.Where.TheVariants.{InExpression, AsStatement, Elsewhere}
+use Rattle.ob_rules.specs.declared.broken.Rule.TheVariants as rule
 use Rattle.ob_rules.specs.Judged.{Judged, joined, no_notes, is_quiet, sound, both, made, ◌▷◌}
 use Rattle.ob_types.specs.declared.value.Value.{Value}
 use Rattle.ob_types.specs.declared.value.Value.TheVariants as literal
@@ -101,7 +102,7 @@ three_parts k cs ds es h g i = ((h.0, g.0, i.0), counts_both k (cs ++ ds) es (co
 -- ---- assignments and calls
 
 target_keeps : (k : Setting) (at : Pos) (m : Meant) → MeantOk k m → Keeps k (PlaceOk k) (target at m)
-target_keeps k at (means.Place p) h = unless_keeps k (PlaceOk k) p.read_only 26 at p h
+target_keeps k at (means.Place p) h = unless_keeps k (PlaceOk k) p.read_only rule.NotChangeable at p h
 target_keeps k at m h = (tt, none)
 
 -- a record is assigned as what the type of the variable stands for
@@ -125,7 +126,7 @@ assigns_keep : (k : Setting) (map : Map) → SaysAll k.map map → (at : Pos) (p
 assigns_keep k map says at p x h g =
     let how = assignment_of map p x in
     let t = assigned_tree (is_array map p.of) x in
-    wants_keeps k (AreOk k) (fits map p.of x) 31 at (stmt.Assign p.designator.inner how t at ∷ [])
+    wants_keeps k (AreOk k) (fits map p.of x) rule.NotAssignable at (stmt.Assign p.designator.inner how t at ∷ [])
     (λ e.
     let v = assigned_tree_ok k (is_array map p.of) x g in
     let ds = counts_of_designator (designator_view p.designator.inner) in
@@ -168,7 +169,7 @@ call_keeps k n g u s = then_keeps k (MeantOk k) (AreOk k) (meant_by AsStatement 
 -- ---- conditions and branches
 
 condition_keeps : (k : Setting) (u : Around) → Stands k u → (x : Phrase) → PhraseOk k x → Keeps k (E k) (condition u x)
-condition_keeps k u s x g = then_keeps k (ValuedOk k) (E k) (x.value u) _ (g.0 u s) (λ v h. wants_keeps k (E k) _ 32 x.start (tree v) (λ e. tree_ok k v h))
+condition_keeps k u s x g = then_keeps k (ValuedOk k) (E k) (x.value u) _ (g.0 u s) (λ v h. wants_keeps k (E k) _ rule.NotBoolean x.start (tree v) (λ e. tree_ok k v h))
 
 abbrev BranchOk : Setting → TypedBranch → Type 0
 BranchOk k b = TE k (branch_view b).test × TSs k (branch_view b).body
@@ -300,23 +301,23 @@ case_keeps k u s at x cs o g h i =
     let c = cases u (selects_if (map_of u) j.node) [] cs in
     then_keeps k (λ (p : Valued × (List TypedCase × Option (List TypedStmt))). ValuedOk k p.0 × (AllByRecursion (CaseOk k) p.1.0 × IfThere (AreOk k) p.1.1)) (AreOk k) (both j (both c (in_turn_if o u))) _
     (both_keep k (ValuedOk k) (λ (p : List TypedCase × Option (List TypedStmt)). AllByRecursion (CaseOk k) p.0 × IfThere (AreOk k) p.1) j (both c (in_turn_if o u))
-    (then_keeps k (ValuedOk k) (ValuedOk k) (x.value u) (case_value (map_of u) x.start) (g.0 u s) (λ v q. wants_keeps k (ValuedOk k) _ 33 x.start v (λ e. q)))
+    (then_keeps k (ValuedOk k) (ValuedOk k) (x.value u) (case_value (map_of u) x.start) (g.0 u s) (λ v q. wants_keeps k (ValuedOk k) _ rule.UnfitCase x.start v (λ e. q)))
     (both_keep k (AllByRecursion (CaseOk k)) (IfThere (AreOk k)) c (in_turn_if o u) (cases_keep k u s (selects_if (map_of u) j.node) [] cs h) (turn_if_keeps k u s o i)))
     (λ p q. ((case_s k (tree p.0) p.1.0 p.1.1 at (tree_ok k p.0 q.0) q.1.0 q.1.1, tt), none))
 
 -- ---- FOR
 
 for_variable_keeps : (k : Setting) (u : Around) → Stands k u → (at : Pos) (x : Ident) (e : Entity) → EntityOk k e → Keeps k (PlaceOk k) (for_variable u at x e)
-for_variable_keeps k u s at x (entity.Variable v t) h = then_keeps k (PlaceOk k) (PlaceOk k) (variable_named u x.pos v t false) (λ p. integer_place (map_of u) at p) (variable_keeps k u s x.pos v t false h) (λ p q. wants_keeps k (PlaceOk k) _ 34 at p (λ e. q))
+for_variable_keeps k u s at x (entity.Variable v t) h = then_keeps k (PlaceOk k) (PlaceOk k) (variable_named u x.pos v t false) (λ p. integer_place (map_of u) at p) (variable_keeps k u s x.pos v t false h) (λ p q. wants_keeps k (PlaceOk k) _ rule.UnfitFor at p (λ e. q))
 for_variable_keeps k u s at x (entity.TypeName t) h = (tt, none)
 for_variable_keeps k u s at x (entity.Module m) h = (tt, none)
 for_variable_keeps k u s at x e h = (tt, none)
 
 bound_keeps : (k : Setting) (map : Map) (at : Pos) (p : Place) (j : Judged Valued) → Keeps k (ValuedOk k) j → Keeps k (E k) (bound_if map at (Some p) j)
-bound_keeps k map at p j h = then_keeps k (ValuedOk k) (E k) j (for_bound map at p) h (λ x q. wants_keeps k (E k) (fits map p.of x) 34 at (tree x) (λ e. tree_ok k x q))
+bound_keeps k map at p j h = then_keeps k (ValuedOk k) (E k) j (for_bound map at p) h (λ x q. wants_keeps k (E k) (fits map p.of x) rule.UnfitFor at (tree x) (λ e. tree_ok k x q))
 
 step_value_keeps : (k : Setting) (at : Pos) (v : Value) → Keeps k Anything (step_value at v)
-step_value_keeps k at (literal.Int z) = unless_keeps k Anything _ 34 at z tt
+step_value_keeps k at (literal.Int z) = unless_keeps k Anything _ rule.UnfitFor at z tt
 step_value_keeps k at v = (tt, none)
 
 step_keeps : (k : Setting) (u : Around) → Stands k u → (at : Pos) (o : Option Phrase) → IfThere (PhraseOk k) o → Keeps k Anything (for_step u at o)
@@ -343,11 +344,11 @@ for_keeps k u s at x a b step body g h l i =
 -- ---- EXIT and RETURN
 
 pub exit_keeps : (k : Setting) (u : Around) (at : Pos) → Keeps k (AreOk k) (rules.exit u at)
-exit_keeps k u at = wants_keeps k (AreOk k) u.in_loop 35 at (stmt.Exit ∷ []) (λ e. (named_s k stmt.Exit Exit view_exit (tt, tt), tt))
+exit_keeps k u at = wants_keeps k (AreOk k) u.in_loop rule.MisplacedExit at (stmt.Exit ∷ []) (λ e. (named_s k stmt.Exit Exit view_exit (tt, tt), tt))
 
 returned_keeps : (k : Setting) (map : Map) (at : Pos) (o : Option TypeRef) (x : Valued) → ValuedOk k x → Keeps k (AreOk k) (returned map at o x)
 returned_keeps k map at None x h = (tt, none)
-returned_keeps k map at (Some t) x h = wants_keeps k (AreOk k) (fits map t x) 36 at (stmt.Return (Some (tree x)) ∷ []) (λ e. (named_s k _ (Return (Some (expr_view (tree x)))) (view_return (Some (tree x))) (tree_ok k x h), tt))
+returned_keeps k map at (Some t) x h = wants_keeps k (AreOk k) (fits map t x) rule.UnfitReturn at (stmt.Return (Some (tree x)) ∷ []) (λ e. (named_s k _ (Return (Some (expr_view (tree x)))) (view_return (Some (tree x))) (tree_ok k x h), tt))
 
 none_keeps : (k : Setting) (at : Pos) (o : Option TypeRef) → Keeps k (AreOk k) (return_none at o)
 none_keeps k at None = ((named_s k _ (Return None) (view_return None) (tt, tt), tt), none)
@@ -379,7 +380,7 @@ with_meant_keeps k u s None x = designates_keeps k u s InExpression x [] tt
 with_meant_keeps k u s (Some m) x = qualified_keeps k u s m x (find_name u.known m.name)
 
 with_place_keeps : (k : Setting) (map : Map) (at : Pos) (m : Meant) → MeantOk k m → Keeps k (PlaceOk k) (with_place map at m)
-with_place_keeps k map at (means.Place p) h = wants_keeps k (PlaceOk k) _ 37 at p (λ e. h)
+with_place_keeps k map at (means.Place p) h = wants_keeps k (PlaceOk k) _ rule.UnfitWith at p (λ e. h)
 with_place_keeps k map at m h = (tt, none)
 
 guard_test_ok : (k : Setting) (p : Place) (g : Guarded) (q : QName) → PlaceOk k p → k.Held q → E k (guard_test p g q)

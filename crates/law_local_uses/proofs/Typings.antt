@@ -21,6 +21,7 @@ use Rattle.ob_types.specs.Maps.{listed, signature_types}
 use Rattle.ob_rules.specs.declared.entity.Known.{Known}
 use Rattle.ob_rules.specs.declared.entity.Entity.{Entity}
 use Rattle.ob_rules.specs.declared.notes.Later.{Later}
+use Rattle.ob_rules.specs.declared.broken.Rule.TheVariants as rule
 use Rattle.ob_rules.specs.Judged.{Judged, sound, silent, unless, both, each_sound, made, noted, judge_later, ◌▷◌}
 use Rattle.ob_rules.specs.Shapes.{is_structured, is_pointer}
 use Rattle.ob_rules.specs.Names.{Around, map_of, in_unit, type_named, found_in_scope, is_among}
@@ -72,7 +73,7 @@ marked_held g u minus d = any_mark g (is_module_level u) minus d.mark_pos d.mark
 -- ---- names and arrays
 
 pub name_good : (g : Given) (u : Around) → Fine g u → (q : Qualident) (open_ok : Bool) → Holds g (TypingOk g) (type_named u q ▷ named_typing u (first_of q) open_ok)
-name_good g u f q open_ok = then_keeps (base g) (In g) (TypingOk g) (type_named u q) (named_typing u (first_of q) open_ok) (type_held g u f q) (λ t h. unless_keeps (base g) (TypingOk g) _ 13 (first_of q) (record { of = t; made = [] }) (h, tt))
+name_good g u f q open_ok = then_keeps (base g) (In g) (TypingOk g) (type_named u q) (named_typing u (first_of q) open_ok) (type_held g u f q) (λ t h. unless_keeps (base g) (TypingOk g) _ rule.MisplacedOpenArray (first_of q) (record { of = t; made = [] }) (h, tt))
 
 length_held : (g : Given) (at : Pos) (v : Value) → Holds g Anything (length_of at v)
 length_held g at (literal.Int (pos zero)) = (tt, none)
@@ -96,7 +97,7 @@ fixed_good g (l ∷ ls) p element h u f name m =
 
 pub array_good : (g : Given) (ls : List Phrase) → AllByRecursion (GoodPhrase g) ls → (at : Pos) (element : Written) → GoodWritten g element → (u : Around) → Fine g u → (name : List ℕ) (m : Mark) (open_ok : Bool) → Holds g (TypingOk g) (array u name m at open_ok ls element)
 array_good g [] p at element h u f name m open_ok =
-    also_keeps (base g) (TypingOk g) _ 13 at (element.typing u (element_name name) mark.Hidden element.open_array ▷ λ t. sound (typed_as u name (desc.OpenArray m t.of) t.made))
+    also_keeps (base g) (TypingOk g) _ rule.MisplacedOpenArray at (element.typing u (element_name name) mark.Hidden element.open_array ▷ λ t. sound (typed_as u name (desc.OpenArray m t.of) t.made))
     (then_keeps (base g) (TypingOk g) (TypingOk g) (element.typing u (element_name name) mark.Hidden element.open_array) (λ t. sound (typed_as u name (desc.OpenArray m t.of) t.made)) (h u f (element_name name) mark.Hidden element.open_array)
     (λ t q. ((own_in g u f name, ((q.0, tt), q.1)), none)))
 array_good g (l ∷ ls) p at element h u f name m open_ok = fixed_good g (l ∷ ls) p element h u f name m
@@ -128,17 +129,17 @@ base_if_held : (g : Given) (u : Around) → Fine g u → (o : Option Qualident) 
 base_if_held g u f None = (tt, none)
 base_if_held g u f (Some q) =
     made_keeps (base g) (In g) (IfThere (In g)) (λ t. Some t) (type_named u q ▷ base_of (map_of u) (first_of q))
-    (then_keeps (base g) (In g) (In g) (type_named u q) (base_of (map_of u) (first_of q)) (type_held g u f q) (λ t h. wants_keeps (base g) (In g) _ 14 (first_of q) t (λ e. h))) (λ t h. h)
+    (then_keeps (base g) (In g) (In g) (type_named u q) (base_of (map_of u) (first_of q)) (type_held g u f q) (λ t h. wants_keeps (base g) (In g) _ rule.UnfitBase (first_of q) t (λ e. h))) (λ t h. h)
 
 later_notes : (g : Given) {A : Type 0} (Q : A → Type 0) (ls : List Later) (j : Judged A) → Holds g Q j → Holds g Q (judge_later ls j)
 later_notes g Q ls j h = later_keeps (base g) Q ls j h
 
 declared_good : (g : Given) (u : Around) (b : Option (Option TypeRef)) (before : List (List ℕ)) (d : IdentDef) (t : TypeRef) → In g t → Holds g (FieldOk g) (field_declared u b before d t)
 declared_good g u b before d t h =
-    let r : Field → Judged Field = λ x. unless (is_among d.ident.name before || is_some (member_in (map_of u) (record_in (map_of u) b) d.ident.name)) 1 d.ident.pos x in
+    let r : Field → Judged Field = λ x. unless (is_among d.ident.name before || is_some (member_in (map_of u) (record_in (map_of u) b) d.ident.name)) rule.DeclaredTwice d.ident.pos x in
     later_notes g (FieldOk g) (inherits b d.ident) (marked u true d ▷ λ m. r (record { name = d.ident.name; mark = m; place = 0; of = t }))
     (then_keeps (base g) Anything (FieldOk g) (marked u true d) (λ m. r (record { name = d.ident.name; mark = m; place = 0; of = t })) (marked_held g u true d)
-    (λ m q. unless_keeps (base g) (FieldOk g) (is_among d.ident.name before || is_some (member_in (map_of u) (record_in (map_of u) b) d.ident.name)) 1 d.ident.pos (record { name = d.ident.name; mark = m; place = 0; of = t }) h))
+    (λ m q. unless_keeps (base g) (FieldOk g) (is_among d.ident.name before || is_some (member_in (map_of u) (record_in (map_of u) b) d.ident.name)) rule.DeclaredTwice d.ident.pos (record { name = d.ident.name; mark = m; place = 0; of = t }) h))
 
 if_good : (g : Given) (u : Around) → Fine g u → (b : Option (Option TypeRef)) (before : List (List ℕ)) (d : IdentDef) (o : Option Typing) → IfThere (TypingOk g) o → Holds g (FieldOk g) (field_if u b before d o)
 if_good g u f b before d (Some t) h = declared_good g u b before d t.of h.0
@@ -276,7 +277,7 @@ sections_good g (s ∷ ss) h u f name i =
 
 result_good : (g : Given) (u : Around) → Fine g u → (o : Option Qualident) → Holds g (IfThere (In g)) (result_of u o)
 result_good g u f None = (tt, none)
-result_good g u f (Some q) = then_keeps (base g) (In g) (IfThere (In g)) (type_named u q) (result_fits u (first_of q)) (type_held g u f q) (λ t h. unless_keeps (base g) (IfThere (In g)) _ 17 (first_of q) (Some t) h)
+result_good g u f (Some q) = then_keeps (base g) (In g) (IfThere (In g)) (type_named u q) (result_fits u (first_of q)) (type_held g u f q) (λ t h. unless_keeps (base g) (IfThere (In g)) _ rule.StructuredResult (first_of q) (Some t) h)
 
 -- parameters in the innermost scope
 pub parameters_in_good : (g : Given) (p : WrittenParameters) → GoodSections g p → (u : Around) → Fine g u → (name : List ℕ) → SectionsOk g (parameters_in u name p)

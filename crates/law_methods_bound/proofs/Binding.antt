@@ -10,6 +10,8 @@ use Rattle.ob_types.specs.declared.desc.Desc.{Desc}
 use Rattle.ob_types.specs.declared.desc.Desc.TheVariants as desc
 use Rattle.ob_types.specs.declared.desc.Method.{Method}
 use Rattle.ob_types.specs.declared.typed.TypedType.{TypedType}
+use Rattle.ob_rules.specs.declared.broken.Rule.TheVariants as rule
+use Rattle.ob_rules.specs.declared.broken.Rule.{Rule}
 use Rattle.ob_rules.specs.Judged.{notes_if}
 use Rattle.ob_rules.specs.Shapes.{Map, Member, AField, AMethod, member}
 use Rattle.ob_rules.specs.Names.{Around, map_of}
@@ -30,9 +32,9 @@ one_filtered test (y ∷ ys) x i = by (test y) i (one_filtered test ys x)
     by true (inr j) r = inr (r j)
     by false j r = inr (r j)
 
-broken_not : (b : Bool) (rule : ℕ) (at : Pos) → (notes_if b rule at).broken ≡ [] → b ≡ false
-broken_not true rule at e = absurd cc
-broken_not false rule at e = refl
+broken_not : (b : Bool) (which : Rule) (at : Pos) → (notes_if b which at).broken ≡ [] → b ≡ false
+broken_not true which at e = absurd cc
+broken_not false which at e = refl
 
 answered : (map : Map) (h : Head) (o : Option Head) → forward_broken map h o ≡ false → is_none o ≡ false
 answered map h None e = absurd (false≢true (sym e))
@@ -40,7 +42,7 @@ answered map h (Some x) e = refl
 
 forward_not : (map : Map) (all : List Head) (h : Head) (f : Bool) → (forward_if f map all h).broken ≡ [] → counts_if f all h ≡ true → f ≡ false
 forward_not map all h false e c = refl
-forward_not map all h true e c = absurd (false≢true (sym (answered map h (find (answers h) all) (broken_not (forward_broken map h (find (answers h) all)) 18 h.at e)) ∙ c))
+forward_not map all h true e c = absurd (false≢true (sym (answered map h (find (answers h) all) (broken_not (forward_broken map h (find (answers h) all)) rule.UnmatchedForward h.at e)) ∙ c))
 
 -- none of them is a forward declaration
 pub counted_whole : (map : Map) (all xs : List Head) → (forwards_judged map all xs).broken ≡ [] → (h : Head) → IsOneOf (filter (counts all) xs) h → h.forward ≡ false

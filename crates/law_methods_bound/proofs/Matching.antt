@@ -12,6 +12,7 @@ use Rattle.ob_types.specs.declared.desc.Method.{Method}
 use Rattle.ob_types.specs.declared.desc.RecordDesc.{RecordDesc}
 use Rattle.ob_types.specs.declared.typed.TypedType.{TypedType}
 use Rattle.ob_rules.specs.declared.entity.Bound.{Bound}
+use Rattle.ob_rules.specs.declared.broken.Rule.TheVariants as rule
 use Rattle.ob_rules.specs.Judged.{broken_at, notes_if, no_notes}
 use Rattle.ob_rules.specs.Shapes.{Map, Member, AField, AMethod, field_or, own_member, or_in_base, base_record, member_within, member}
 use Rattle.ob_rules.specs.Names.{Around}
@@ -69,12 +70,12 @@ left_true true false x e f g = absurd (false≢true f)
 left_true false b x e f g = absurd (false≢true e)
 
 quiet_not : (c : Bool) (st : Binding) (h : Head) (b : BoundAs) → Quiet (redefined c st h b) → c ≡ false
-quiet_not true st h b e = not_empty _ [] (back_empty st.notes.broken (broken_at 20 h.at).broken e)
+quiet_not true st h b e = not_empty _ [] (back_empty st.notes.broken (broken_at rule.UnmatchedRedefinition h.at).broken e)
 quiet_not false st h b e = refl
 
-clash_not : (st : Binding) (at : Pos) (f : Bool) → f ≡ false → st.notes.broken ++ (notes_if (not f) 1 at).broken ≡ [] → ⊥
+clash_not : (st : Binding) (at : Pos) (f : Bool) → f ≡ false → st.notes.broken ++ (notes_if (not f) rule.DeclaredTwice at).broken ≡ [] → ⊥
 clash_not st at true g q = false≢true (sym g)
-clash_not st at false g q = not_empty _ [] (back_empty st.notes.broken (broken_at 1 at).broken q)
+clash_not st at false g q = not_empty _ [] (back_empty st.notes.broken (broken_at rule.DeclaredTwice at).broken q)
 
 module _ (u : Around) (last : List TypedType) (h0 : Head) (b0 : BoundAs) (own : bytes_eq b0.owner.«module» u.unit ≡ true) (bound : h0.bound ≡ Some b0) (judged : IsJudged h0) where
   abbrev at : List TypedType → Map

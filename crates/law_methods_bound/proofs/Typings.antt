@@ -16,6 +16,7 @@ use Rattle.ob_types.specs.declared.types.Mode.TheVariants as mode
 use Rattle.ob_types.specs.declared.desc.Desc.TheVariants as desc
 use Rattle.ob_types.specs.declared.typed.TypedType.{TypedType}
 use Rattle.ob_types.specs.declared.typed.TypedParameter.{TypedParameter}
+use Rattle.ob_rules.specs.declared.broken.Rule.TheVariants as rule
 use Rattle.ob_rules.specs.Judged.{Judged, sound, both, made, noted, ◌▷◌}
 use Rattle.ob_rules.specs.Names.{Around, map_of, type_named}
 use Rattle.ob_rules.specs.Phrases.{Phrase}
@@ -52,7 +53,7 @@ abbrev pub MakeRaw : Parameters → Type 0
 MakeRaw p = AreRaw p.made × AreOf p.parameters p.signature.params
 
 named_good : (u : Around) (at : Pos) (open_ok : Bool) (t : TypeRef) → Has MakesRaw (named_typing u at open_ok t)
-named_good u at open_ok t = unless_has MakesRaw _ 13 at _ tt
+named_good u at open_ok t = unless_has MakesRaw _ rule.MisplacedOpenArray at _ tt
 
 some_length : (n : ℕ) → 1 ≤ suc n
 some_length n = omega arith
@@ -76,7 +77,7 @@ fixed_good (l ∷ ls) element g u name m =
 
 pub array_good : (ls : List Phrase) (at : Pos) (element : Written) → IsGood element → (u : Around) (name : List ℕ) (m : Mark) (open_ok : Bool) → Has MakesRaw (array u name m at open_ok ls element)
 array_good [] at element g u name m open_ok =
-    also_has MakesRaw _ 13 at _
+    also_has MakesRaw _ rule.MisplacedOpenArray at _
     (then_has MakesRaw MakesRaw (element.typing u (element_name name) mark.Hidden element.open_array) (λ t. sound (typed_as u name (desc.OpenArray m t.of) t.made)) (g u (element_name name) mark.Hidden element.open_array) (λ t h. ((refl, tt), h)))
 array_good (l ∷ ls) at element g u name m open_ok = fixed_good (l ∷ ls) element g u name m
 

@@ -1,7 +1,8 @@
 -- What holds of the node that is judged.
-use Rattle.std.proofs.Common.{ℕ, Bool, true, false, List, [], ◌∷◌, Option, Some, None}
+use Rattle.std.proofs.Common.{Bool, true, false, List, [], ◌∷◌, Option, Some, None}
 use Rattle.ob_tree.specs.declared.pos.Pos.{Pos}
 use Rattle.ob_rules.specs.declared.notes.Later.{Later}
+use Rattle.ob_rules.specs.declared.broken.Rule.{Rule}
 use Rattle.ob_rules.specs.Judged.{Judged, if_sound, paired, both, unless, also, judge_later, ◌▷◌}
 use Rattle.law_lists.proofs.Lists.{IfThere}
 
@@ -38,11 +39,11 @@ first_has P a b h = paired_has P (λ x. Unit {0}) a.node b.node h (sure b.node)
 pub second_has : {A B : Type 0} (Q : B → Type 0) (a : Judged A) (b : Judged B) → Has Q b → Has (λ (p : A × B). Unit {0} × Q p.1) (both a b)
 second_has Q a b h = paired_has (λ x. Unit {0}) Q a.node b.node (sure a.node) h
 
-pub also_has : {A : Type 0} (P : A → Type 0) (b : Bool) (rule : ℕ) (at : Pos) (j : Judged A) → Has P j → Has P (also b rule at j)
+pub also_has : {A : Type 0} (P : A → Type 0) (b : Bool) (rule : Rule) (at : Pos) (j : Judged A) → Has P j → Has P (also b rule at j)
 also_has P true rule at j h = tt
 also_has P false rule at j h = h
 
-pub unless_has : {A : Type 0} (P : A → Type 0) (b : Bool) (rule : ℕ) (at : Pos) (x : A) → P x → Has P (unless b rule at x)
+pub unless_has : {A : Type 0} (P : A → Type 0) (b : Bool) (rule : Rule) (at : Pos) (x : A) → P x → Has P (unless b rule at x)
 unless_has P true rule at x h = tt
 unless_has P false rule at x h = h
 

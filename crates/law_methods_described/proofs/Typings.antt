@@ -11,6 +11,7 @@ use Rattle.ob_tree.specs.declared.ident.Qualident.{Qualident}
 use Rattle.ob_types.specs.declared.types.TypeRef.{TypeRef}
 use Rattle.ob_types.specs.declared.desc.Desc.TheVariants as desc
 use Rattle.ob_types.specs.Maps.{is_type}
+use Rattle.ob_rules.specs.declared.broken.Rule.TheVariants as rule
 use Rattle.ob_rules.specs.Judged.{Judged, sound, both, made, noted, ◌▷◌}
 use Rattle.ob_rules.specs.Names.{Around, map_of, type_named}
 use Rattle.ob_rules.specs.Phrases.{Phrase}
@@ -38,7 +39,7 @@ abbrev pub MakeTypes : Parameters → Type 0
 MakeTypes p = AreTypes p.made
 
 named_good : (u : Around) (at : Pos) (open_ok : Bool) (t : TypeRef) → Has MakesTypes (named_typing u at open_ok t)
-named_good u at open_ok t = unless_has MakesTypes _ 13 at _ tt
+named_good u at open_ok t = unless_has MakesTypes _ rule.MisplacedOpenArray at _ tt
 
 fixed_good : (ls : List Phrase) (element : Written) → IsGood element → (u : Around) (name : List ℕ) (m : Mark) → Has MakesTypes (fixed_array u name m ls element)
 fixed_good [] element g u name m = g u name m false
@@ -49,7 +50,7 @@ fixed_good (l ∷ ls) element g u name m =
 
 pub array_good : (ls : List Phrase) (at : Pos) (element : Written) → IsGood element → (u : Around) (name : List ℕ) (m : Mark) (open_ok : Bool) → Has MakesTypes (array u name m at open_ok ls element)
 array_good [] at element g u name m open_ok =
-    also_has MakesTypes _ 13 at _
+    also_has MakesTypes _ rule.MisplacedOpenArray at _
     (then_has MakesTypes MakesTypes (element.typing u (element_name name) mark.Hidden element.open_array) (λ t. sound (typed_as u name (desc.OpenArray m t.of) t.made)) (g u (element_name name) mark.Hidden element.open_array) (λ t h. (refl, h)))
 array_good (l ∷ ls) at element g u name m open_ok = fixed_good (l ∷ ls) element g u name m
 

@@ -10,6 +10,7 @@ use Rattle.ob_types.specs.declared.desc.Desc.TheVariants as desc
 use Rattle.ob_types.specs.declared.desc.RecordDesc.{RecordDesc}
 use Rattle.ob_types.specs.declared.desc.Method.{Method}
 use Rattle.ob_types.specs.declared.typed.TypedType.{TypedType}
+use Rattle.ob_rules.specs.declared.broken.Rule.TheVariants as rule
 use Rattle.ob_rules.specs.Judged.{notes_if, no_notes}
 use Rattle.ob_rules.specs.Shapes.{Map, Member, AField, AMethod, member, same_name}
 use Rattle.ob_rules.specs.Names.{Around, map_of, own_desc, type_desc, out_string}
@@ -179,7 +180,7 @@ module _ (u : Around) (h0 : Head) (b0 : BoundAs) (own : bytes_eq b0.owner.«modu
   pub at_own : (ts : List TypedType) → map_in ts b0.owner ≡ desc_in ts b0.owner.object
   at_own ts = ap (λ b. type_desc b (same_name b0.owner out_string) (record u { own = ts }) b0.owner) own
 
-  said : (f : Bool) (at : Pos) → f ≡ false → (notes_if (not f) 1 at).broken ≡ [] → ⊥
+  said : (f : Bool) (at : Pos) → f ≡ false → (notes_if (not f) rule.DeclaredTwice at).broken ≡ [] → ⊥
   said true at f e = absurd cc
   said false at f e = absurd cc
 
@@ -187,7 +188,7 @@ module _ (u : Around) (h0 : Head) (b0 : BoundAs) (own : bytes_eq b0.owner.«modu
   by_gains s r None i e =
       member_gained (map_in s.own) (map_in (introduce s h0 b0).own) b0.owner r.r (new_method h0 b0) (at_own s.own ∙ r.is)
       (at_own (introduce s h0 b0).own ∙ changed_there b0.owner.object (new_method h0 b0) s.own r.r r.is) h0.name ((bytes_eq-Decides h0.name h0.name).1 refl) i
-  by_gains s r (Some (AField q f)) i e = absurd (said h0.forward h0.at forward (back_empty s.notes.broken (notes_if (not h0.forward) 1 h0.at).broken e))
+  by_gains s r (Some (AField q f)) i e = absurd (said h0.forward h0.at forward (back_empty s.notes.broken (notes_if (not h0.forward) rule.DeclaredTwice h0.at).broken e))
   by_gains s r (Some (AMethod q m)) i e = (by_step (map_in s.own) s h0 b0 (Some (AMethod q m))).keeps (subst IsMethod (sym i) tt)
 
   one_gains : (s : Binding) → HasRecord s.own b0.owner.object → (bind_one u s h0 h0.bound).notes.broken ≡ [] → Is (bind_one u s h0 h0.bound).own

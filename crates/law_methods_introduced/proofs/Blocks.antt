@@ -16,6 +16,7 @@ use Rattle.ob_types.specs.declared.typed.TypedProcedure.{TypedProcedure}
 use Rattle.ob_types.specs.declared.typed.TypedModule.{TypedModule}
 use Rattle.ob_format.specs.Names.{is_identifier}
 use Rattle.ob_rules.specs.declared.broken.Broken.{Broken}
+use Rattle.ob_rules.specs.declared.broken.Rule.TheVariants as rule
 use Rattle.ob_rules.specs.Judged.{broken_at}
 use Rattle.ob_rules.specs.Shapes.{Map}
 use Rattle.ob_rules.specs.Names.{Around, map_of}
@@ -240,7 +241,7 @@ not_empty : {A : Type 0} {x : A} → x ∷ [] ≡ [] → ⊥
 not_empty e = absurd cc
 
 pub quiet_types : (t : Bool) (d : Head) (u : Around) → (declared_head t d u).notes.broken ≡ [] → types_of_head (declared_head t d u).parameters ≡ types_of d.parameters
-quiet_types true d u e = absurd (not_empty (back_empty d.notes.broken (broken_at 1 d.at).broken e))
+quiet_types true d u e = absurd (not_empty (back_empty d.notes.broken (broken_at rule.DeclaredTwice d.at).broken e))
 quiet_types false d u e = types_same d.parameters
 
 pub judged_quiet : (u : Around) (p : Written_procedure) (h : Head) (forward : Bool) → (procedure_judged u p h forward).notes.broken ≡ [] → h.notes.broken ≡ []

@@ -18,6 +18,7 @@ use Rattle.ob_types.specs.declared.typed.TypedVariable.{TypedVariable}
 use Rattle.ob_types.specs.declared.typed.TypedModule.{TypedModule}
 use Rattle.ob_rules.specs.declared.broken.Broken.{Broken}
 use Rattle.ob_rules.specs.declared.notes.Later.{Later}
+use Rattle.ob_rules.specs.declared.broken.Rule.TheVariants as rule
 use Rattle.ob_rules.specs.Judged.{Judged, Notes, notes_if, both, joined, ◌▷◌}
 use Rattle.ob_rules.specs.Shapes.{Map}
 use Rattle.ob_rules.specs.Names.{Around, map_of, found_in_scope, is_out}
@@ -223,7 +224,7 @@ pub not_out : ModulesAreNotOut
 not_out shown tree m e =
     let p = parts shown tree in
     let k = unbroken_is p.notes.broken (typed_module shown tree.name tree.imports (map declaration tree.decls) p) m e in
-    let judged = notes_if (is_out tree.name.name || is_system tree.name.name) 5 tree.name.pos in
+    let judged = notes_if (is_out tree.name.name || is_system tree.name.name) rule.ReservedModule tree.name.pos in
     let a = front_empty (name_judged tree.name tree.closing).broken _ k.0 in
     let b = front_empty judged.broken (closing_judged tree.name.name (Some tree.closing)).broken a in
-    subst (λ (x : TypedModule). is_out x.name ≡ false) k.1 (first_false (is_out tree.name.name) (is_system tree.name.name) (quiet_if (is_out tree.name.name || is_system tree.name.name) 5 tree.name.pos b))
+    subst (λ (x : TypedModule). is_out x.name ≡ false) k.1 (first_false (is_out tree.name.name) (is_system tree.name.name) (quiet_if (is_out tree.name.name || is_system tree.name.name) rule.ReservedModule tree.name.pos b))

@@ -12,6 +12,7 @@ use Rattle.ob_types.specs.declared.types.TypeRef.{TypeRef}
 use Rattle.ob_types.specs.declared.types.TypeRef.TheVariants as ref
 use Rattle.ob_types.specs.declared.desc.Field.{Field}
 use Rattle.ob_types.specs.declared.desc.Desc.TheVariants as desc
+use Rattle.ob_rules.specs.declared.broken.Rule.TheVariants as rule
 use Rattle.ob_rules.specs.Judged.{Judged, sound, silent, both, made, noted, unless, ◌▷◌}
 use Rattle.ob_rules.specs.Names.{Around, map_of, in_unit, is_among, type_named}
 use Rattle.ob_rules.specs.Phrases.{Phrase}
@@ -42,7 +43,7 @@ abbrev pub MakeApart : Parameters → Type 0
 MakeApart p = AreApart p.made
 
 named_good : (u : Around) (at : Pos) (open_ok : Bool) (t : TypeRef) → Has MakesApart (named_typing u at open_ok t)
-named_good u at open_ok t = unless_has MakesApart _ 13 at _ tt
+named_good u at open_ok t = unless_has MakesApart _ rule.MisplacedOpenArray at _ tt
 
 fixed_good : (ls : List Phrase) (element : Written) → IsGood element → (u : Around) (name : List ℕ) (m : Mark) → Has MakesApart (fixed_array u name m ls element)
 fixed_good [] element g u name m = g u name m false
@@ -53,7 +54,7 @@ fixed_good (l ∷ ls) element g u name m =
 
 pub array_good : (ls : List Phrase) (at : Pos) (element : Written) → IsGood element → (u : Around) (name : List ℕ) (m : Mark) (open_ok : Bool) → Has MakesApart (array u name m at open_ok ls element)
 array_good [] at element g u name m open_ok =
-    also_has MakesApart _ 13 at _
+    also_has MakesApart _ rule.MisplacedOpenArray at _
     (then_has MakesApart MakesApart (element.typing u (element_name name) mark.Hidden element.open_array) (λ t. sound (typed_as u name (desc.OpenArray m t.of) t.made)) (g u (element_name name) mark.Hidden element.open_array) (λ t h. (tt, h)))
 array_good (l ∷ ls) at element g u name m open_ok = fixed_good (l ∷ ls) element g u name m
 
@@ -70,7 +71,7 @@ record IsGoodFields (before : List (List ℕ)) (f : Fields) : Type 0 where
 IsField : IdentDef → List (List ℕ) → Field → Type 0
 IsField d before f = (f.name ≡ d.ident.name) × (is_among d.ident.name before ≡ false)
 
-new_field : (a b : Bool) (d : IdentDef) (before : List (List ℕ)) (at : Pos) (f : Field) → is_among d.ident.name before ≡ a → f.name ≡ d.ident.name → Has (IsField d before) (unless (a || b) 1 at f)
+new_field : (a b : Bool) (d : IdentDef) (before : List (List ℕ)) (at : Pos) (f : Field) → is_among d.ident.name before ≡ a → f.name ≡ d.ident.name → Has (IsField d before) (unless (a || b) rule.DeclaredTwice at f)
 unfolding IsField
 new_field true b d before at f e n = tt
 new_field false true d before at f e n = tt
@@ -78,7 +79,7 @@ new_field false false d before at f e n = (n, e)
 
 field_is : (u : Around) (base : Option (Option TypeRef)) (before : List (List ℕ)) (d : IdentDef) (t : TypeRef) → Has (IsField d before) (field_declared u base before d t)
 field_is u base before d t =
-    let f : Mark → Judged Field = λ m. unless (is_among d.ident.name before || is_some (member_in (map_of u) (record_in (map_of u) base) d.ident.name)) 1 d.ident.pos (record { name = d.ident.name; mark = m; place = 0; of = t }) in
+    let f : Mark → Judged Field = λ m. unless (is_among d.ident.name before || is_some (member_in (map_of u) (record_in (map_of u) base) d.ident.name)) rule.DeclaredTwice d.ident.pos (record { name = d.ident.name; mark = m; place = 0; of = t }) in
     later_has (IsField d before) (inherits base d.ident) (marked u true d ▷ f)
     (any_then (IsField d before) (marked u true d) f (λ m. new_field (is_among d.ident.name before) (is_some (member_in (map_of u) (record_in (map_of u) base) d.ident.name)) d before d.ident.pos (record { name = d.ident.name; mark = m; place = 0; of = t }) refl refl))
 

@@ -9,6 +9,8 @@ use Rattle.ob_types.specs.declared.typed.TypedVariable.{TypedVariable}
 use Rattle.ob_rules.specs.declared.entity.Entity.{Entity}
 use Rattle.ob_rules.specs.declared.entity.Known.{Known}
 use Rattle.ob_rules.specs.declared.broken.Broken.{Broken}
+use Rattle.ob_rules.specs.declared.broken.Rule.TheVariants as rule
+use Rattle.ob_rules.specs.declared.broken.Rule.{Rule}
 use Rattle.ob_rules.specs.Judged.{notes_if}
 use Rattle.ob_rules.specs.Names.{Around, in_scope, found_in_scope}
 use Rattle.ob_rules.specs.Declarations.{Part, Declared, declare_if, declare, twice, with_part, then_declared}
@@ -51,12 +53,12 @@ is_declared None u x e h =
     let here : in_scope u.scope k x.name ≡ true = ap (λ b. b && bytes_eq x.name x.name) (eq-eqb u.scope u.scope refl) ∙ bytes_itself x.name in
     ap (λ b. is_some (cond b (Some k) (found_in_scope u x.name))) here
 
-pub quiet_if : (b : Bool) (rule : ℕ) (at : Pos) → (notes_if b rule at).broken ≡ [] → b ≡ false
-quiet_if true rule at e = absurd cc
-quiet_if false rule at e = refl
+pub quiet_if : (b : Bool) (which : Rule) (at : Pos) → (notes_if b which at).broken ≡ [] → b ≡ false
+quiet_if true which at e = absurd cc
+quiet_if false which at e = refl
 
 pub once : (u : Around) (x : Ident) → (twice u x).broken ≡ [] → is_known u x.name ≡ false
-once u x e = quiet_if (is_known u x.name) 1 x.pos e
+once u x e = quiet_if (is_known u x.name) rule.DeclaredTwice x.pos e
 
 -- ---- a declaration
 

@@ -1,8 +1,9 @@
 -- What holds of what is judged, where nothing is broken in it.
-use Rattle.std.proofs.Common.{◌≡◌, ℕ, Bool, true, false, List, [], ◌∷◌, Option, Some, None}
+use Rattle.std.proofs.Common.{◌≡◌, Bool, true, false, List, [], ◌∷◌, Option, Some, None}
 use Rattle.ob_tree.specs.declared.pos.Pos.{Pos}
 use Rattle.ob_rules.specs.declared.notes.Later.{Later}
 use Rattle.ob_rules.specs.declared.broken.Broken.{Broken}
+use Rattle.ob_rules.specs.declared.broken.Rule.{Rule}
 use Rattle.ob_rules.specs.Judged.{Judged, Notes, sound, if_sound, paired, both, made, unless, also, judge_later, noted, ◌▷◌}
 use Rattle.law_lists.proofs.Lists.{Anything, IfThere, back_empty, front_empty}
 
@@ -39,11 +40,11 @@ paired_there P Q (Some x) (Some y) h k = (h, k)
 pub both_quiet : {A B : Type 0} (P : A → Type 0) (Q : B → Type 0) (a : Judged A) (b : Judged B) → Quiet P a → Quiet Q b → Quiet (λ (p : A × B). P p.0 × Q p.1) (both a b)
 both_quiet P Q a b h k = λ e. paired_there P Q a.node b.node (h (front_empty a.notes.broken b.notes.broken e)) (k (back_empty a.notes.broken b.notes.broken e))
 
-pub unless_quiet : {A : Type 0} (P : A → Type 0) (b : Bool) (rule : ℕ) (at : Pos) (x : A) → P x → Quiet P (unless b rule at x)
+pub unless_quiet : {A : Type 0} (P : A → Type 0) (b : Bool) (rule : Rule) (at : Pos) (x : A) → P x → Quiet P (unless b rule at x)
 unless_quiet P true rule at x h = λ e. tt
 unless_quiet P false rule at x h = λ e. h
 
-pub also_quiet : {A : Type 0} (P : A → Type 0) (b : Bool) (rule : ℕ) (at : Pos) (j : Judged A) → Quiet P j → Quiet P (also b rule at j)
+pub also_quiet : {A : Type 0} (P : A → Type 0) (b : Bool) (rule : Rule) (at : Pos) (j : Judged A) → Quiet P j → Quiet P (also b rule at j)
 also_quiet P true rule at j h = λ e. tt
 also_quiet P false rule at j h = h
 

@@ -15,6 +15,7 @@ use Rattle.ob_types.specs.declared.desc.Desc.{Desc}
 use Rattle.ob_types.specs.declared.desc.Desc.TheVariants as desc
 use Rattle.ob_types.specs.declared.desc.Field.{Field}
 use Rattle.ob_types.specs.declared.typed.TypedType.{TypedType}
+use Rattle.ob_rules.specs.declared.broken.Rule.TheVariants as rule
 use Rattle.ob_rules.specs.Judged.{Judged, sound, silent, both, made, noted, each_sound, unless, if_sound, ◌▷◌}
 use Rattle.ob_rules.specs.Names.{Around, map_of, in_unit, is_among, type_named}
 use Rattle.ob_rules.specs.Phrases.{Phrase}
@@ -55,7 +56,7 @@ one_more r c d ts m s h = record {
 -- ---- names and arrays
 
 pub name_good : (q : Qualident) (u : Around) (name : List ℕ) (open_ok : Bool) → Quiet (IsIn name) (type_named u q ▷ named_typing u (first_of q) open_ok)
-name_good q u name open_ok = then_quiet Anything (IsIn name) (type_named u q) (named_typing u (first_of q) open_ok) (any_quiet (type_named u q)) (λ t h. unless_quiet (IsIn name) _ 13 (first_of q) (record { of = t; made = [] }) (none_in name))
+name_good q u name open_ok = then_quiet Anything (IsIn name) (type_named u q) (named_typing u (first_of q) open_ok) (any_quiet (type_named u q)) (λ t h. unless_quiet (IsIn name) _ rule.MisplacedOpenArray (first_of q) (record { of = t; made = [] }) (none_in name))
 
 fixed_good : (ls : List Phrase) (element : Written) → IsGood element → (u : Around) (name : List ℕ) (m : Mark) → Quiet (IsIn name) (fixed_array u name m ls element)
 fixed_good [] element g u name m = g u name m false
@@ -66,7 +67,7 @@ fixed_good (l ∷ ls) element g u name m =
 
 pub array_good : (ls : List Phrase) (at : Pos) (element : Written) → IsGood element → (u : Around) (name : List ℕ) (m : Mark) (open_ok : Bool) → Quiet (IsIn name) (array u name m at open_ok ls element)
 array_good [] at element g u name m open_ok =
-    also_quiet (IsIn name) _ 13 at (element.typing u (element_name name) mark.Hidden element.open_array ▷ λ t. sound (typed_as u name (desc.OpenArray m t.of) t.made))
+    also_quiet (IsIn name) _ rule.MisplacedOpenArray at (element.typing u (element_name name) mark.Hidden element.open_array ▷ λ t. sound (typed_as u name (desc.OpenArray m t.of) t.made))
     (then_quiet (IsIn (element_name name)) (IsIn name) (element.typing u (element_name name) mark.Hidden element.open_array) (λ t. sound (typed_as u name (desc.OpenArray m t.of) t.made)) (g u (element_name name) mark.Hidden element.open_array)
     (λ t h. λ e. one_more name 91 (desc.OpenArray m t.of) t.made refl refl h))
 array_good (l ∷ ls) at element g u name m open_ok = fixed_good (l ∷ ls) element g u name m
@@ -107,7 +108,7 @@ HasFirst (d ∷ ds) = IsWord d.ident.name
 abbrev pub AreGoodFields : List WrittenFields → Type 0
 AreGoodFields ls = AllByRecursion (λ l. HasFirst l.names × IsGood l.node) ls
 
-new_or_broken : (a b : Bool) (at : Pos) (f : Field) → (unless (a || b) 1 at f).notes.broken ≡ [] → a ≡ false
+new_or_broken : (a b : Bool) (at : Pos) (f : Field) → (unless (a || b) rule.DeclaredTwice at f).notes.broken ≡ [] → a ≡ false
 new_or_broken true b at f e = absurd cc
 new_or_broken false b at f e = refl
 
@@ -125,7 +126,7 @@ marked_new u false minus at mark.Hidden f Q k e = k mark.Hidden e
 
 field_new : (u : Around) (base : Option (Option TypeRef)) (before : List (List ℕ)) (d : IdentDef) (t : TypeRef) → (field_declared u base before d t).notes.broken ≡ [] → is_among d.ident.name before ≡ false
 field_new u base before d t e =
-    let f : Mark → Judged Field = λ m. unless (is_among d.ident.name before || is_some (member_in (map_of u) (record_in (map_of u) base) d.ident.name)) 1 d.ident.pos (record { name = d.ident.name; mark = m; place = 0; of = t }) in
+    let f : Mark → Judged Field = λ m. unless (is_among d.ident.name before || is_some (member_in (map_of u) (record_in (map_of u) base) d.ident.name)) rule.DeclaredTwice d.ident.pos (record { name = d.ident.name; mark = m; place = 0; of = t }) in
     marked_new u (is_module_level u) true d.mark_pos d.mark f (is_among d.ident.name before ≡ false)
     (λ m k. new_or_broken (is_among d.ident.name before) (is_some (member_in (map_of u) (record_in (map_of u) base) d.ident.name)) d.ident.pos (record { name = d.ident.name; mark = m; place = 0; of = t }) k)
     (later_broken (inherits base d.ident) (marked u true d ▷ f) e)

@@ -13,6 +13,7 @@ use Rattle.ob_tree.specs.declared.type_node.TypeNode.TheOpen.{TypeNode-F, FieldL
 use Rattle.ob_tree.specs.declared.type_node.TypeNode.TheFolds.{fold-FieldList, fold-Section, ind-TypeNode, ind-FormalPars, fold-roll-TypeNode, fold-roll-FieldList, fold-roll-FormalPars, fold-roll-Section}
 use Rattle.ob_tree.specs.declared.ident.Mark.{Mark}
 use Rattle.ob_tree.specs.declared.ident.Qualident.{Qualident}
+use Rattle.ob_rules.specs.declared.broken.Rule.TheVariants as rule
 use Rattle.ob_rules.specs.Judged.{◌▷◌}
 use Rattle.ob_rules.specs.Names.{Around, type_named as type_of_name}
 use Rattle.ob_rules.specs.Expressions.{phrase_of}
@@ -39,7 +40,7 @@ nameless : (w : Written) → w.name ≡ None → IsGood w → IsNode w
 nameless w e g = record { typing = g; alone = λ q i. let bad : None ≡ Some q = sym e ∙ i in absurd cc }
 
 name_alone : (q : Qualident) (u : Around) (open_ok : Bool) → Quiet (λ (t : Typing). t.made ≡ []) (type_of_name u q ▷ named_typing u (first_of q) open_ok)
-name_alone q u open_ok = then_quiet Anything (λ (t : Typing). t.made ≡ []) (type_of_name u q) (named_typing u (first_of q) open_ok) (any_quiet (type_of_name u q)) (λ t h. unless_quiet (λ (t : Typing). t.made ≡ []) _ 13 (first_of q) (record { of = t; made = [] }) refl)
+name_alone q u open_ok = then_quiet Anything (λ (t : Typing). t.made ≡ []) (type_of_name u q) (named_typing u (first_of q) open_ok) (any_quiet (type_of_name u q)) (λ t h. unless_quiet (λ (t : Typing). t.made ≡ []) _ rule.MisplacedOpenArray (first_of q) (record { of = t; made = [] }) refl)
 
 pub words_are : (x : List ℕ) → is_word x ≡ true → IsWord x
 words_are [] e = tt

@@ -15,6 +15,7 @@ use Rattle.ob_types.specs.declared.desc.Desc.TheVariants as desc
 use Rattle.ob_types.specs.declared.typed.TypedType.{TypedType}
 use Rattle.ob_types.specs.Tests.{target, shape_at, pointer_of}
 use Rattle.ob_rules.specs.declared.entity.Known.{Known}
+use Rattle.ob_rules.specs.declared.broken.Rule.TheVariants as rule
 use Rattle.ob_rules.specs.Judged.{both, paired}
 use Rattle.ob_rules.specs.Shapes.{is_held, pointed, same_name}
 use Rattle.ob_rules.specs.Names.{Around, map_of, type_desc, own_desc, out_string, in_unit, is_among, type_named}
@@ -110,7 +111,7 @@ record_lacks u (Some q) = own_lacks u q (is_module_level u) (is_own u q && is_mo
 bound_speaks : (at : Pos) (var : Bool) (t : TypeRef) (quiet : Bool) (o : Option QName) → (quiet ≡ true → ⊥) → IfThere (λ (q : QName). Lacks 47 q.object) o → Speaks IsOwner (bound_to at var t quiet o)
 bound_speaks at var t quiet (Some q) n h = λ e. h
 bound_speaks at var t true None n h = absurd (n refl)
-bound_speaks at var t false None n h = breaks_speaks IsOwner 19 at
+bound_speaks at var t false None n h = breaks_speaks IsOwner rule.UnfitReceiver at
 
 silent_not : (u : Around) (var : Bool) (o : Option TypeRef) → ((b : TypeRef) → o ≡ Some b → is_held (map_of u) b ≡ true) → silent_base (map_of u) var o ≡ true → ⊥
 silent_not u true o h e = false≢true e

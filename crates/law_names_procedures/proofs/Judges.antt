@@ -1,8 +1,9 @@
 -- What is judged and breaks no rule has a node.
-use Rattle.std.proofs.Common.{◌≡◌, ℕ, Bool, true, false, List, [], ◌∷◌, Option, Some, None}
+use Rattle.std.proofs.Common.{◌≡◌, Bool, true, false, List, [], ◌∷◌, Option, Some, None}
 use Rattle.std.specs.List.{AllByRecursion}
 use Rattle.ob_tree.specs.declared.pos.Pos.{Pos}
 use Rattle.ob_rules.specs.declared.notes.Later.{Later}
+use Rattle.ob_rules.specs.declared.broken.Rule.{Rule}
 use Rattle.ob_rules.specs.Judged.{Judged, sound, breaks, if_sound, paired, both, made, each_sound, unless, wants, also, judge_later, ◌▷◌}
 use Rattle.law_lists.proofs.Lists.{Anything, back_empty, front_empty}
 
@@ -28,7 +29,7 @@ speaks_more P Q j f h = λ e. has_more P Q j.node f (h e)
 pub sound_speaks : {A : Type 0} (P : A → Type 0) (x : A) → P x → Speaks P (sound x)
 sound_speaks P x h = λ e. h
 
-pub breaks_speaks : {A : Type 0} (P : A → Type 0) (rule : ℕ) (at : Pos) → Speaks P (breaks rule at)
+pub breaks_speaks : {A : Type 0} (P : A → Type 0) (rule : Rule) (at : Pos) → Speaks P (breaks rule at)
 breaks_speaks P rule at = λ e. not_empty _ [] e
 
 if_speaks : {A B : Type 0} (P : A → Type 0) (Q : B → Type 0) (o : Option A) (f : A → Judged B) → Has P o → ((x : A) → P x → Speaks Q (f x)) → Speaks Q (if_sound o f)
@@ -59,15 +60,15 @@ pub each_speaks : {A : Type 0} (js : List (Judged A)) → AllByRecursion (Speaks
 each_speaks [] h = λ e. tt
 each_speaks (j ∷ js) h = made_speaks (λ p. Unit {0} × Unit {0}) Anything (λ p. p.0 ∷ p.1) (both j (each_sound js)) (both_speak Anything Anything j (each_sound js) h.0 (each_speaks js h.1)) (λ x p. tt)
 
-pub unless_speaks : {A : Type 0} (P : A → Type 0) (b : Bool) (rule : ℕ) (at : Pos) (x : A) → P x → Speaks P (unless b rule at x)
+pub unless_speaks : {A : Type 0} (P : A → Type 0) (b : Bool) (rule : Rule) (at : Pos) (x : A) → P x → Speaks P (unless b rule at x)
 unless_speaks P true rule at x h = breaks_speaks P rule at
 unless_speaks P false rule at x h = λ e. h
 
-pub wants_speaks : {A : Type 0} (P : A → Type 0) (b : Bool) (rule : ℕ) (at : Pos) (x : A) → P x → Speaks P (wants b rule at x)
+pub wants_speaks : {A : Type 0} (P : A → Type 0) (b : Bool) (rule : Rule) (at : Pos) (x : A) → P x → Speaks P (wants b rule at x)
 wants_speaks P true rule at x h = λ e. h
 wants_speaks P false rule at x h = breaks_speaks P rule at
 
-pub also_speaks : {A : Type 0} (P : A → Type 0) (b : Bool) (rule : ℕ) (at : Pos) (j : Judged A) → Speaks P j → Speaks P (also b rule at j)
+pub also_speaks : {A : Type 0} (P : A → Type 0) (b : Bool) (rule : Rule) (at : Pos) (j : Judged A) → Speaks P j → Speaks P (also b rule at j)
 also_speaks P true rule at j h = λ e. not_empty _ j.notes.broken e
 also_speaks P false rule at j h = h
 

@@ -13,6 +13,7 @@ use Rattle.ob_types.specs.declared.typed.OutProcedure.{OutProcedure}
 use Rattle.ob_rules.specs.declared.entity.Entity.{Entity}
 use Rattle.ob_rules.specs.declared.entity.Known.{Known}
 use Rattle.ob_rules.specs.declared.entity.Entity.TheVariants as entity
+use Rattle.ob_rules.specs.declared.broken.Rule.TheVariants as rule
 use Rattle.ob_rules.specs.Judged.{Judged}
 use Rattle.ob_rules.specs.Names.{Around, find_name, variable_known, is_enclosing, entity_known, shown_of, export_known, exported, is_out, out_procedure, out_type, type_of_desc, type_in, type_of_entity, type_behind, unless_variable_is, unless_variable, type_by, type_named}
 use Rattle.law_names_procedures.proofs.Judges.{Speaks, breaks_speaks, then_speaks}
@@ -41,11 +42,11 @@ filter_has P test (x ∷ xs) h = filter_if P (test x) x (filter test xs) h.0 (fi
 -- ---- entities
 
 variable_speaks : (b : Bool) (at : Pos) (e : Entity) → IsKnown e → Speaks IsKnown (variable_known b at e)
-variable_speaks true at e h = breaks_speaks IsKnown 8 at
+variable_speaks true at e h = breaks_speaks IsKnown rule.OuterVariable at
 variable_speaks false at e h = λ n. h
 
 entity_speaks : (u : Around) (at : Pos) (scope : ℕ) (e : Entity) → IsKnown e → Speaks IsKnown (entity_known u at scope e)
-entity_speaks u at scope entity.LeftOut h = breaks_speaks IsKnown 7 at
+entity_speaks u at scope entity.LeftOut h = breaks_speaks IsKnown rule.LeftOut at
 entity_speaks u at scope entity.Unsound h = absurd h
 entity_speaks u at scope (entity.Variable v t) h = variable_speaks (is_enclosing u scope) at (entity.Variable v t) h
 entity_speaks u at scope e h = λ n. h
@@ -54,20 +55,20 @@ entity_speaks u at scope e h = λ n. h
 
 of_entity : (at : Pos) (e : Entity) → Speaks Anything (type_of_entity at e)
 of_entity at (entity.TypeName t) = λ n. tt
-of_entity at e = breaks_speaks {A = TypeRef} Anything 3 at
+of_entity at e = breaks_speaks {A = TypeRef} Anything rule.WrongKind at
 
 of_desc : (at : Pos) (q : QName) (d : Desc) → Speaks Anything (type_of_desc at q d)
-of_desc at q (desc.Const v) = breaks_speaks {A = TypeRef} Anything 3 at
-of_desc at q (desc.Var m t) = breaks_speaks {A = TypeRef} Anything 3 at
-of_desc at q (desc.Proc s) = breaks_speaks {A = TypeRef} Anything 3 at
+of_desc at q (desc.Const v) = breaks_speaks {A = TypeRef} Anything rule.WrongKind at
+of_desc at q (desc.Var m t) = breaks_speaks {A = TypeRef} Anything rule.WrongKind at
+of_desc at q (desc.Proc s) = breaks_speaks {A = TypeRef} Anything rule.WrongKind at
 of_desc at q d = λ n. tt
 
 of_out : (at : Pos) (o : Option OutProcedure) → Speaks Anything (out_type at o)
-of_out at None = breaks_speaks {A = TypeRef} Anything 2 at
-of_out at (Some p) = breaks_speaks {A = TypeRef} Anything 3 at
+of_out at None = breaks_speaks {A = TypeRef} Anything rule.NotDeclared at
+of_out at (Some p) = breaks_speaks {A = TypeRef} Anything rule.WrongKind at
 
 export_speaks : (q : QName) (at : Pos) (o : Option Desc) → Speaks Anything (export_known q at o)
-export_speaks q at None = breaks_speaks {A = QName × Desc} Anything 2 at
+export_speaks q at None = breaks_speaks {A = QName × Desc} Anything rule.NotDeclared at
 export_speaks q at (Some d) = λ n. tt
 
 in_speaks : (b : Bool) (u : Around) (m : List ℕ) (x : Ident) → Speaks Anything (type_in b u m x)
@@ -76,14 +77,14 @@ in_speaks false u m x = then_speaks Anything Anything (exported u m x) (λ e. ty
 
 behind_speaks : (u : Around) (m x : Ident) (e : Entity) → Speaks Anything (type_behind u m x e)
 behind_speaks u m x (entity.Module n) = in_speaks (is_out n) u n x
-behind_speaks u m x e = breaks_speaks {A = TypeRef} Anything 3 m.pos
+behind_speaks u m x e = breaks_speaks {A = TypeRef} Anything rule.WrongKind m.pos
 
 variable_is : (u : Around) (x : Ident) (k : Known) (e : Entity) (f : Entity → Judged TypeRef) → IsKnown e → ((e : Entity) → Speaks Anything (f e)) → Speaks Anything (unless_variable_is u x k e f)
-variable_is u x k (entity.Variable v t) f h g = breaks_speaks {A = TypeRef} Anything 3 x.pos
+variable_is u x k (entity.Variable v t) f h g = breaks_speaks {A = TypeRef} Anything rule.WrongKind x.pos
 variable_is u x k e f h g = then_speaks IsKnown Anything (entity_known u x.pos k.scope e) f (entity_speaks u x.pos k.scope e h) (λ e h. g e)
 
 variable_speaks_of : (u : Around) (x : Ident) (o : Option Known) (f : Entity → Judged TypeRef) → IfThere (λ k. IsKnown k.what) o → ((e : Entity) → Speaks Anything (f e)) → Speaks Anything (unless_variable u x o f)
-variable_speaks_of u x None f h g = breaks_speaks {A = TypeRef} Anything 2 x.pos
+variable_speaks_of u x None f h g = breaks_speaks {A = TypeRef} Anything rule.NotDeclared x.pos
 variable_speaks_of u x (Some k) f h g = variable_is u x k k.what f h g
 
 by_speaks : (u : Around) → AreKnown u.known → (o : Option Ident) (x : Ident) → Speaks Anything (type_by u o x)

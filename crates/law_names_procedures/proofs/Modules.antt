@@ -14,6 +14,7 @@ use Rattle.ob_types.specs.declared.desc.Desc.{Desc}
 use Rattle.ob_types.specs.declared.typed.TypedProcedure.{TypedProcedure}
 use Rattle.ob_types.specs.declared.typed.TypedModule.{TypedModule}
 use Rattle.ob_rules.specs.declared.broken.Broken.{Broken}
+use Rattle.ob_rules.specs.declared.broken.Rule.TheVariants as rule
 use Rattle.ob_rules.specs.Names.{Around, predeclared, map_of, is_out}
 use Rattle.ob_rules.specs.Expressions.{phrase_of}
 use Rattle.ob_rules.specs.Types.{written, is_module_level, with_types}
@@ -187,7 +188,7 @@ procedures_are_apart shown tree m s n e =
     let u = unbroken_parts p.notes.broken (typed_module shown tree.name tree.imports (map declaration tree.decls) p) m e in
     subst (λ (x : TypedModule). IsDistinct bytes_eq (map (λ p. p.name) x.procedures)) u.1 (module_good shown tree.name tree.imports (map declaration tree.decls) (decls_good tree.decls n) (map judging tree.body) tree.closing s u.0)
 
-out_or : (b c : Bool) (at : Pos) (bs : List Broken) → (notes_if (b || c) 5 at).broken ++ bs ≡ [] → b ≡ false
+out_or : (b c : Bool) (at : Pos) (bs : List Broken) → (notes_if (b || c) rule.ReservedModule at).broken ++ bs ≡ [] → b ≡ false
 out_or true c at bs e = not_empty _ bs e
 out_or false c at bs e = refl
 

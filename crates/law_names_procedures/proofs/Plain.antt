@@ -17,6 +17,7 @@ use Rattle.ob_types.specs.declared.typed.TypedType.{TypedType}
 use Rattle.ob_rules.specs.declared.entity.Entity.{Entity}
 use Rattle.ob_rules.specs.declared.entity.Known.{Known}
 use Rattle.ob_rules.specs.declared.broken.Broken.{Broken}
+use Rattle.ob_rules.specs.declared.broken.Rule.TheVariants as rule
 use Rattle.ob_rules.specs.Judged.{both, notes_if, ◌▷◌}
 use Rattle.ob_rules.specs.Names.{Around, found_in_scope, is_among}
 use Rattle.ob_rules.specs.Expressions.{constant_value}
@@ -64,7 +65,7 @@ declare_known None u x e h i = (i, h)
 -- ---- constants
 
 nil_speaks : (at : Pos) (v : Value) → Speaks Anything (no_nil at v)
-nil_speaks at literal.Nil = breaks_speaks {A = Value} Anything 10 at
+nil_speaks at literal.Nil = breaks_speaks {A = Value} Anything rule.NotConstant at
 nil_speaks at v = λ e. tt
 
 constant_is : (o : Option (Mark × Value)) → Has (λ p. Unit {0} × Unit {0}) o → IsKnown (constant_entity o)
@@ -178,7 +179,7 @@ variables_good ds w g u k e =
 
 -- ---- imports
 
-system_or : (b : Bool) (i : Import) (t : Ident) (bs : List Broken) → (notes_if b 5 t.pos).broken ++ bs ≡ [] → IsKnown (import_entity b t)
+system_or : (b : Bool) (i : Import) (t : Ident) (bs : List Broken) → (notes_if b rule.ReservedModule t.pos).broken ++ bs ≡ [] → IsKnown (import_entity b t)
 system_or true i t bs e = not_empty _ bs e
 system_or false i t bs e = tt
 

@@ -8,6 +8,7 @@ use Rattle.ob_tree.specs.declared.names.QName.{QName}
 use Rattle.ob_types.specs.declared.types.Signature.{Signature}
 use Rattle.ob_types.specs.declared.typed.TypedType.{TypedType}
 use Rattle.ob_rules.specs.declared.entity.Known.{Known}
+use Rattle.ob_rules.specs.declared.broken.Rule.TheVariants as rule
 use Rattle.ob_rules.specs.Judged.{broken_at}
 use Rattle.ob_rules.specs.Names.{Around, in_scope, found_in_scope, in_unit}
 use Rattle.ob_rules.specs.Types.{Parameters, with_types, is_module_level}
@@ -181,5 +182,5 @@ module _ (hs : Heads) (g : GoodHeads hs) (d : Head) (pl : IsPlain d.name) (has :
 
 -- the notes of a heading that is declared once
 pub not_twice : (t : Bool) (d : Head) (u : Around) → (declared_head t d u).notes.broken ≡ [] → (t ≡ false) × (d.notes.broken ≡ [])
-not_twice true d u e = not_empty _ [] (back_empty d.notes.broken (broken_at 1 d.at).broken e)
+not_twice true d u e = not_empty _ [] (back_empty d.notes.broken (broken_at rule.DeclaredTwice d.at).broken e)
 not_twice false d u e = (refl, e)

@@ -21,6 +21,7 @@ use Rattle.ob_types.specs.declared.typed.TypedType.{TypedType}
 use Rattle.ob_rules.specs.declared.entity.Known.{Known}
 use Rattle.ob_rules.specs.declared.broken.Broken.{Broken}
 use Rattle.ob_rules.specs.declared.values.Valued.{Valued}
+use Rattle.ob_rules.specs.declared.broken.Rule.TheVariants as rule
 use Rattle.ob_rules.specs.Judged.{Judged, if_sound, paired, unless, sound, both, made, noted, each_sound, is_quiet, ◌▷◌}
 use Rattle.ob_rules.specs.Names.{Around, map_of, own_desc, type_named, in_unit, is_among, is_declared}
 use Rattle.ob_rules.specs.Values.{constant_in}
@@ -57,7 +58,7 @@ typed_made u name o d more h k = (points_one u (record { name = name; desc = d }
 -- ---- constants and marks
 
 of_constant : (start : Pos) (o : Option Value) → Speaks Anything (constant_of start o)
-of_constant start None = breaks_speaks {A = Value} Anything 10 start
+of_constant start None = breaks_speaks {A = Value} Anything rule.NotConstant start
 of_constant start (Some v) = λ e. tt
 
 -- an expression that must be constant speaks even where its value is silent
@@ -76,10 +77,10 @@ mark_speaks_of true true at mark.Full = λ e. tt
 mark_speaks_of true true at mark.ReadOnly = λ e. tt
 mark_speaks_of true true at mark.Hidden = λ e. tt
 mark_speaks_of true false at mark.Full = λ e. tt
-mark_speaks_of true false at mark.ReadOnly = breaks_speaks {A = Mark} Anything 6 at
+mark_speaks_of true false at mark.ReadOnly = breaks_speaks {A = Mark} Anything rule.MisplacedMark at
 mark_speaks_of true false at mark.Hidden = λ e. tt
-mark_speaks_of false minus at mark.Full = breaks_speaks {A = Mark} Anything 6 at
-mark_speaks_of false minus at mark.ReadOnly = breaks_speaks {A = Mark} Anything 6 at
+mark_speaks_of false minus at mark.Full = breaks_speaks {A = Mark} Anything rule.MisplacedMark at
+mark_speaks_of false minus at mark.ReadOnly = breaks_speaks {A = Mark} Anything rule.MisplacedMark at
 mark_speaks_of false minus at mark.Hidden = λ e. tt
 
 pub mark_speaks : (u : Around) (minus : Bool) (d : IdentDef) → Speaks Anything (marked u minus d)
@@ -88,11 +89,11 @@ mark_speaks u minus d = mark_speaks_of (is_module_level u) minus d.mark_pos d.ma
 -- ---- arrays
 
 named_speaks : (u : Around) (name : List ℕ) (at : Pos) (open_ok : Bool) (q : Qualident) (t : TypeRef) → Speaks (IsMade u name (Some q)) (named_typing u at open_ok t)
-named_speaks u name at open_ok q t = unless_speaks (IsMade u name (Some q)) _ 13 at (record { of = t; made = [] }) (tt, λ e. absurd cc)
+named_speaks u name at open_ok q t = unless_speaks (IsMade u name (Some q)) _ rule.MisplacedOpenArray at (record { of = t; made = [] }) (tt, λ e. absurd cc)
 
 length_speaks : (at : Pos) (v : Value) → Speaks Anything (length_of at v)
 length_speaks at (literal.Int (pos (suc n))) = λ e. tt
-length_speaks at v = breaks_speaks {A = ℕ} Anything 12 at
+length_speaks at v = breaks_speaks {A = ℕ} Anything rule.UnfitLength at
 
 fixed_well : (ls : List Phrase) (element : Written) → IsWell element → (u : Around) (name : List ℕ) (m : Mark) → AreKnown u.known → Speaks (λ t. Points u t.made) (fixed_array u name m ls element)
 fixed_well [] element g u name m k = λ e. has_more (IsMade u name element.name) (λ t. Points u t.made) (element.typing u name m false).node (λ t h. h.0) (g u name m false k e)
@@ -106,7 +107,7 @@ fixed_well (l ∷ ls) element g u name m k =
 
 pub array_well : (ls : List Phrase) (at : Pos) (element : Written) → IsWell element → (u : Around) (name : List ℕ) (m : Mark) (open_ok : Bool) → AreKnown u.known → Speaks (IsMade u name None) (array u name m at open_ok ls element)
 array_well [] at element g u name m open_ok k =
-    also_speaks (IsMade u name None) _ 13 at (element.typing u (element_name name) mark.Hidden element.open_array ▷ λ t. sound (typed_as u name (desc.OpenArray m t.of) t.made))
+    also_speaks (IsMade u name None) _ rule.MisplacedOpenArray at (element.typing u (element_name name) mark.Hidden element.open_array ▷ λ t. sound (typed_as u name (desc.OpenArray m t.of) t.made))
     (then_speaks (IsMade u (element_name name) element.name) (IsMade u name None) (element.typing u (element_name name) mark.Hidden element.open_array) (λ t. sound (typed_as u name (desc.OpenArray m t.of) t.made)) (g u (element_name name) mark.Hidden element.open_array k)
     (λ t h. λ e. typed_made u name None (desc.OpenArray m t.of) t.made tt h.0))
 array_well (l ∷ ls) at element g u name m open_ok k =
@@ -118,12 +119,12 @@ array_well (l ∷ ls) at element g u name m open_ok k =
 
 base_speaks : (u : Around) (o : Option Qualident) → AreKnown u.known → Speaks Anything (base_if u o)
 base_speaks u None k = λ e. tt
-base_speaks u (Some q) k = made_speaks Anything Anything (λ t. Some t) (type_named u q ▷ base_of (map_of u) (first_of q)) (then_speaks Anything Anything (type_named u q) (base_of (map_of u) (first_of q)) (name_speaks u q k) (λ t h. wants_speaks Anything _ 14 (first_of q) t tt)) (λ t h. tt)
+base_speaks u (Some q) k = made_speaks Anything Anything (λ t. Some t) (type_named u q ▷ base_of (map_of u) (first_of q)) (then_speaks Anything Anything (type_named u q) (base_of (map_of u) (first_of q)) (name_speaks u q k) (λ t h. wants_speaks Anything _ rule.UnfitBase (first_of q) t tt)) (λ t h. tt)
 
 field_speaks : (u : Around) (base : Option (Option TypeRef)) (before : List (List ℕ)) (d : IdentDef) (t : TypeRef) → Speaks Anything (field_declared u base before d t)
 field_speaks u base before d t =
-    later_speaks Anything (inherits base d.ident) (marked u true d ▷ λ m. unless (is_among d.ident.name before || is_some (member_in (map_of u) (record_in (map_of u) base) d.ident.name)) 1 d.ident.pos (record { name = d.ident.name; mark = m; place = 0; of = t }))
-    (then_speaks Anything Anything (marked u true d) _ (mark_speaks u true d) (λ m h. unless_speaks Anything (is_among d.ident.name before || is_some (member_in (map_of u) (record_in (map_of u) base) d.ident.name)) 1 d.ident.pos (record { name = d.ident.name; mark = m; place = 0; of = t }) tt))
+    later_speaks Anything (inherits base d.ident) (marked u true d ▷ λ m. unless (is_among d.ident.name before || is_some (member_in (map_of u) (record_in (map_of u) base) d.ident.name)) rule.DeclaredTwice d.ident.pos (record { name = d.ident.name; mark = m; place = 0; of = t }))
+    (then_speaks Anything Anything (marked u true d) _ (mark_speaks u true d) (λ m h. unless_speaks Anything (is_among d.ident.name before || is_some (member_in (map_of u) (record_in (map_of u) base) d.ident.name)) rule.DeclaredTwice d.ident.pos (record { name = d.ident.name; mark = m; place = 0; of = t }) tt))
 
 fields_each : (u : Around) (base : Option (Option TypeRef)) (before : List (List ℕ)) (ds : List IdentDef) (t : Typing) → AllByRecursion (Speaks Anything) (fields_of u base before ds (Some t))
 fields_each u base before [] t = tt
@@ -180,7 +181,7 @@ IsBase u t = Points u t.made × (is_held (map_of (with_types u t.made)) t.of ≡
 base_judges : (u : Around) (name : List ℕ) (inline : Bool) (at : Pos) (s p : Bool) (t : Typing) → Points u t.made → (s ≡ true → is_held (map_of (with_types u t.made)) t.of ≡ true) → (p ≡ true → is_held (map_of (with_types u t.made)) t.of ≡ true) → Speaks (IsBase u) (base_judged name inline at s p t)
 base_judges u name inline at true p t k f g = λ e. (k, f refl)
 base_judges u name inline at false true t k f g = λ e. (k, g refl)
-base_judges u name inline at false false t k f g = breaks_speaks (IsBase u) 15 at
+base_judges u name inline at false false t k f g = breaks_speaks (IsBase u) rule.UnfitPointerBase at
 
 pointer_well_by : (u : Around) (name : List ℕ) (m : Mark) (base : Written) → IsWell base → AreKnown u.known → (o : Option Ident) → ((x : Ident) → o ≡ Some x → is_among x.name u.later_types ≡ true) → Speaks (IsMade u name None) (pointer_by u name m base o)
 pointer_well_by u name m base g k (Some x) h = λ e. typed_made u name None (desc.Pointer m (ref.Named (in_unit u (u.path ++ x.name)))) [] (inr (x.name, h x refl, refl)) tt
@@ -268,7 +269,7 @@ sections_well (s ∷ ss) g u name i k = λ e.
 
 result_speaks : (u : Around) (o : Option Qualident) → AreKnown u.known → Speaks Anything (result_of u o)
 result_speaks u None k = λ e. tt
-result_speaks u (Some q) k = then_speaks Anything Anything (type_named u q) (result_fits u (first_of q)) (name_speaks u q k) (λ t h. unless_speaks Anything _ 17 (first_of q) (Some t) tt)
+result_speaks u (Some q) k = then_speaks Anything Anything (type_named u q) (result_fits u (first_of q)) (name_speaks u q k) (λ t h. unless_speaks Anything _ rule.StructuredResult (first_of q) (Some t) tt)
 
 pub parameters_well : (u : Around) (name : List ℕ) (p : WrittenParameters) → AreWellSections p.sections → AreKnown u.known → SpeakSections u (parameters_in u name p)
 parameters_well u name p g k = λ e.

@@ -8,6 +8,7 @@ use Rattle.ob_tree.specs.declared.decl.Decl.{Decl}
 use Rattle.ob_types.specs.declared.desc.Desc.TheVariants as desc
 use Rattle.ob_types.specs.declared.desc.Field.{Field}
 use Rattle.ob_types.specs.declared.typed.TypedType.{TypedType}
+use Rattle.ob_rules.specs.declared.broken.Rule.TheVariants as rule
 use Rattle.ob_rules.specs.Judged.{notes_if}
 use Rattle.ob_rules.specs.Shapes.{Map}
 use Rattle.ob_rules.specs.Names.{Around, own_desc, map_of}
@@ -155,7 +156,7 @@ find_is {A} f (x ∷ xs) o i y e = by (f x) refl (i ∙ e) (λ k. find_is f xs (
 answered : (map : Map) (all : List Head) (h : Head) → h.forward ≡ true → (forward_if h.forward map all h).broken ≡ [] → (k : Head) × IsAmong k all × (answers h k ≡ true)
 answered map all h f e = by (find (answers h) all) refl (subst (λ b. (forward_if b map all h).broken ≡ []) f e)
   where
-    by : (o : Option Head) → find (answers h) all ≡ o → (notes_if (forward_broken map h o) 18 h.at).broken ≡ [] → (k : Head) × IsAmong k all × (answers h k ≡ true)
+    by : (o : Option Head) → find (answers h) all ≡ o → (notes_if (forward_broken map h o) rule.UnmatchedForward h.at).broken ≡ [] → (k : Head) × IsAmong k all × (answers h k ≡ true)
     by None i e = absurd cc
     by (Some k) i e = let r = find_is (answers h) all (Some k) i k refl in (k, r.0, r.1)
 

@@ -6,6 +6,7 @@ use Rattle.std.proofs.lemmas.Bool.{and_from, or_parts}
 use Rattle.std.proofs.lemmas.Slice.Eq.{bytes_eq-Decides}
 use Rattle.ob_tree.specs.declared.names.QName.{QName}
 use Rattle.ob_tree.specs.declared.decl.Receiver.{Receiver as RawReceiver}
+use Rattle.ob_rules.specs.declared.broken.Rule.TheVariants as rule
 use Rattle.ob_rules.specs.Judged.{broken_at}
 use Rattle.ob_rules.specs.Names.{Around}
 use Rattle.ob_rules.specs.Types.{with_types}
@@ -90,7 +91,7 @@ twice_once u hs h a true (Some c) e i n = let same : c ≡ a = cc in subst (λ (
 twice_once u hs h a false o e i n = absurd cc
 
 declared_once : (u v : Around) (hs : List Head) (h : Head) → ((a : BoundAs) → h.bound ≡ Some a → h.is_bound ≡ true) → (t : Bool) → name_twice u hs h ≡ t → (declared_head t h v).notes.broken ≡ [] → IsOnce (declared_head t h v) hs
-declared_once u v hs h b true n e = let bad : (broken_at 1 h.at).broken ≡ [] = back_empty h.notes.broken (broken_at 1 h.at).broken e in absurd cc
+declared_once u v hs h b true n e = let bad : (broken_at rule.DeclaredTwice h.at).broken ≡ [] = back_empty h.notes.broken (broken_at rule.DeclaredTwice h.at).broken e in absurd cc
 declared_once u v hs h b false n e = λ a i. twice_once u hs h a h.is_bound h.bound (b a i) i n
 
 pub before_quiet : (ps : List Written_procedure) (hs : Heads) → AreQuiet (headings_in_order ps hs).before → AreQuiet hs.before

@@ -3,6 +3,7 @@ use Rattle.std.proofs.Common.{◌≡◌, ◌⊎◌, inl, inr, Bool, true, false,
 use Rattle.std.specs.Prelude.{bytes_eq}
 use Rattle.std.specs.List.{AllByRecursion}
 use Rattle.ob_types.specs.declared.typed.TypedType.{TypedType}
+use Rattle.ob_rules.specs.declared.broken.Rule.TheVariants as rule
 use Rattle.ob_rules.specs.Judged.{broken_at}
 use Rattle.ob_rules.specs.Names.{Around}
 use Rattle.ob_rules.specs.Types.{Parameters, with_types}
@@ -104,7 +105,7 @@ keeps u h false = record { unit = refl; path = refl; own = refl }
 heading_added : (v : Around) (hs : Heads) → AreHeads v hs → (w : WrittenHeading) → IsWellWritten w → (forward twice : Bool) →
     (declared_head twice (head_of hs.around w forward) (known_behind (with_types hs.around (types_of (head_of hs.around w forward).parameters)) twice (head_of hs.around w forward))).notes.broken ≡ [] →
     AreHeads v (record { around = known_behind (with_types hs.around (types_of (head_of hs.around w forward).parameters)) twice (head_of hs.around w forward); before = declared_head twice (head_of hs.around w forward) (known_behind (with_types hs.around (types_of (head_of hs.around w forward).parameters)) twice (head_of hs.around w forward)) ∷ hs.before })
-heading_added v hs g w well forward true e = let h = head_of hs.around w forward in let bad : (broken_at 1 h.at).broken ≡ [] = back_empty h.notes.broken (broken_at 1 h.at).broken e in absurd cc
+heading_added v hs g w well forward true e = let h = head_of hs.around w forward in let bad : (broken_at rule.DeclaredTwice h.at).broken ≡ [] = back_empty h.notes.broken (broken_at rule.DeclaredTwice h.at).broken e in absurd cc
 heading_added v hs g w well forward false e = record {
   unit = same.unit ∙ g.unit;
   path = same.path ∙ g.path;

@@ -5,6 +5,7 @@ use Rattle.std.proofs.lemmas.Bool.{eq-eqb}
 use Rattle.std.proofs.lemmas.Slice.Eq.{bytes_eq-Decides}
 use Rattle.ob_rules.specs.declared.entity.Entity.{Entity}
 use Rattle.ob_rules.specs.declared.entity.Known.{Known}
+use Rattle.ob_rules.specs.declared.broken.Rule.TheVariants as rule
 use Rattle.ob_rules.specs.Judged.{broken_at}
 use Rattle.ob_rules.specs.Names.{Around, in_unit, in_scope, found_in_scope}
 use Rattle.ob_rules.specs.Types.{Parameters, with_types}
@@ -117,7 +118,7 @@ module _ (v : Around) (none : HasNoForward v) (hs : Heads) (known : AreKnownBehi
   }
 
   added : (t : Bool) → name_twice typed hs.before h ≡ t → (declared_head t h (behind t)).notes.broken ≡ [] → AreKnownBehind v (record { around = behind t; before = declared_head t h (behind t) ∷ hs.before })
-  added true n e = let bad : (broken_at 1 h.at).broken ≡ [] = back_empty h.notes.broken (broken_at 1 h.at).broken e in absurd cc
+  added true n e = let bad : (broken_at rule.DeclaredTwice h.at).broken ≡ [] = back_empty h.notes.broken (broken_at rule.DeclaredTwice h.at).broken e in absurd cc
   added false n e = added_by h.is_bound refl (declared_head false h (behind false)) refl refl refl n
 
 -- ---- headings in order

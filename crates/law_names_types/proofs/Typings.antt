@@ -15,6 +15,7 @@ use Rattle.ob_types.specs.declared.desc.Desc.{Desc}
 use Rattle.ob_types.specs.declared.desc.Desc.TheVariants as desc
 use Rattle.ob_types.specs.declared.desc.Field.{Field}
 use Rattle.ob_types.specs.declared.typed.TypedType.{TypedType}
+use Rattle.ob_rules.specs.declared.broken.Rule.TheVariants as rule
 use Rattle.ob_rules.specs.Judged.{Judged, sound, silent, unless, both, each_sound, made, noted, ◌▷◌}
 use Rattle.ob_rules.specs.Shapes.{is_structured, is_pointer}
 use Rattle.ob_rules.specs.Names.{Around, map_of, in_unit, type_named, is_among}
@@ -55,7 +56,7 @@ named_quiet w g u name m ok = quiet_and (IsIn name) Nested (w.typing u name m ok
 -- ---- names and arrays
 
 pub name_nested : (q : Qualident) (u : Around) (open_ok : Bool) → Quiet Nested (type_named u q ▷ named_typing u (first_of q) open_ok)
-name_nested q u open_ok = then_quiet Anything Nested (type_named u q) (named_typing u (first_of q) open_ok) (any_quiet (type_named u q)) (λ t h. unless_quiet Nested _ 13 (first_of q) (record { of = t; made = [] }) tt)
+name_nested q u open_ok = then_quiet Anything Nested (type_named u q) (named_typing u (first_of q) open_ok) (any_quiet (type_named u q)) (λ t h. unless_quiet Nested _ rule.MisplacedOpenArray (first_of q) (record { of = t; made = [] }) tt)
 
 -- all of the part of the name, of lengths or of none
 fixed_in : (ls : List Phrase) (element : Written) → IsGood element → (u : Around) (name : List ℕ) (m : Mark) → Quiet (IsIn name) (fixed_array u name m ls element)
@@ -72,7 +73,7 @@ fixed_nested (l ∷ ls) element g u name m =
 
 pub array_nested : (ls : List Phrase) (at : Pos) (element : Written) → IsNested element → (u : Around) (name : List ℕ) (m : Mark) (open_ok : Bool) → Quiet Nested (array u name m at open_ok ls element)
 array_nested [] at element g u name m open_ok =
-    also_quiet Nested _ 13 at (element.typing u (element_name name) mark.Hidden element.open_array ▷ λ t. sound (typed_as u name (desc.OpenArray m t.of) t.made))
+    also_quiet Nested _ rule.MisplacedOpenArray at (element.typing u (element_name name) mark.Hidden element.open_array ▷ λ t. sound (typed_as u name (desc.OpenArray m t.of) t.made))
     (then_quiet (Named (element_name name)) Nested (element.typing u (element_name name) mark.Hidden element.open_array) (λ t. sound (typed_as u name (desc.OpenArray m t.of) t.made)) (named_quiet element g u (element_name name) mark.Hidden element.open_array)
     (λ t h. λ e. one_before name 91 (desc.OpenArray m t.of) t.made (λ x. tt) h.0.parts h.1))
 array_nested (l ∷ ls) at element g u name m open_ok = fixed_nested (l ∷ ls) element g u name m
@@ -172,10 +173,10 @@ name_right (f ∷ fs) gs x h = inr (name_right fs gs x h)
 
 declared_name : (u : Around) (b : Option (Option TypeRef)) (before : List (List ℕ)) (d : IdentDef) (t : TypeRef) → Quiet (λ (f : Field). f.name ≡ d.ident.name) (field_declared u b before d t)
 declared_name u b before d t =
-    let r : Field → Judged Field = λ x. unless (is_among d.ident.name before || is_some (member_in (map_of u) (record_in (map_of u) b) d.ident.name)) 1 d.ident.pos x in
+    let r : Field → Judged Field = λ x. unless (is_among d.ident.name before || is_some (member_in (map_of u) (record_in (map_of u) b) d.ident.name)) rule.DeclaredTwice d.ident.pos x in
     later_quiet (λ (f : Field). f.name ≡ d.ident.name) (inherits b d.ident) (marked u true d ▷ λ m. r (record { name = d.ident.name; mark = m; place = 0; of = t }))
     (then_quiet Anything (λ (f : Field). f.name ≡ d.ident.name) (marked u true d) (λ m. r (record { name = d.ident.name; mark = m; place = 0; of = t })) (any_quiet (marked u true d))
-    (λ m h. unless_quiet (λ (f : Field). f.name ≡ d.ident.name) (is_among d.ident.name before || is_some (member_in (map_of u) (record_in (map_of u) b) d.ident.name)) 1 d.ident.pos (record { name = d.ident.name; mark = m; place = 0; of = t }) refl))
+    (λ m h. unless_quiet (λ (f : Field). f.name ≡ d.ident.name) (is_among d.ident.name before || is_some (member_in (map_of u) (record_in (map_of u) b) d.ident.name)) rule.DeclaredTwice d.ident.pos (record { name = d.ident.name; mark = m; place = 0; of = t }) refl))
 
 if_name : (u : Around) (b : Option (Option TypeRef)) (before : List (List ℕ)) (d : IdentDef) (o : Option Typing) → Quiet (λ (f : Field). f.name ≡ d.ident.name) (field_if u b before d o)
 if_name u b before d (Some t) = declared_name u b before d t.of
@@ -189,7 +190,7 @@ first_there u b before (d ∷ ds) h o =
     then_quiet (λ (p : Field × List Field). (p.0.name ≡ d.ident.name) × Anything p.1) (λ (fs : List Field). IsNameOf fs d.ident.name) (both a rest) (λ p. sound (p.0 ∷ p.1))
     (both_quiet (λ (f : Field). f.name ≡ d.ident.name) Anything a rest (if_name u b before d o) (any_quiet rest)) (λ p h. λ e. inl h.0)
 
-new_or_broken : (a b : Bool) (at : Pos) (f : Field) → (unless (a || b) 1 at f).notes.broken ≡ [] → a ≡ false
+new_or_broken : (a b : Bool) (at : Pos) (f : Field) → (unless (a || b) rule.DeclaredTwice at f).notes.broken ≡ [] → a ≡ false
 new_or_broken true b at f e = absurd cc
 new_or_broken false b at f e = refl
 
@@ -207,7 +208,7 @@ marked_new u false minus at mark.Hidden f Q k e = k mark.Hidden e
 
 field_new : (u : Around) (base : Option (Option TypeRef)) (before : List (List ℕ)) (d : IdentDef) (t : TypeRef) → (field_declared u base before d t).notes.broken ≡ [] → is_among d.ident.name before ≡ false
 field_new u base before d t e =
-    let f : Mark → Judged Field = λ m. unless (is_among d.ident.name before || is_some (member_in (map_of u) (record_in (map_of u) base) d.ident.name)) 1 d.ident.pos (record { name = d.ident.name; mark = m; place = 0; of = t }) in
+    let f : Mark → Judged Field = λ m. unless (is_among d.ident.name before || is_some (member_in (map_of u) (record_in (map_of u) base) d.ident.name)) rule.DeclaredTwice d.ident.pos (record { name = d.ident.name; mark = m; place = 0; of = t }) in
     marked_new u (is_module_level u) true d.mark_pos d.mark f (is_among d.ident.name before ≡ false)
     (λ m k. new_or_broken (is_among d.ident.name before) (is_some (member_in (map_of u) (record_in (map_of u) base) d.ident.name)) d.ident.pos (record { name = d.ident.name; mark = m; place = 0; of = t }) k)
     (later_broken (inherits base d.ident) (marked u true d ▷ f) e)

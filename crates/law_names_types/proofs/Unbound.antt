@@ -9,6 +9,7 @@ use Rattle.ob_types.specs.declared.desc.Desc.TheVariants as desc
 use Rattle.ob_types.specs.declared.desc.Field.{Field}
 use Rattle.ob_types.specs.declared.desc.Method.{Method}
 use Rattle.ob_types.specs.declared.typed.TypedType.{TypedType}
+use Rattle.ob_rules.specs.declared.broken.Rule.TheVariants as rule
 use Rattle.ob_rules.specs.Judged.{notes_if, broken_at, no_notes}
 use Rattle.ob_rules.specs.Shapes.{Map, Member, AField, AMethod, field_or, own_member, base_record, or_in_base, member_within, member, same_name}
 use Rattle.ob_rules.specs.Names.{Around, map_of, own_desc, type_desc, out_string}
@@ -53,7 +54,7 @@ leaves_then : (s t v : Binding) → Leaves s t → Leaves t v → Leaves s v
 leaves_then s t v h k = record { fields = λ z y. k.fields z y ∙ h.fields z y; quiet = λ e. h.quiet (k.quiet e) }
 
 redefined_leaves : (b : Bool) (s : Binding) (h : Head) (a : BoundAs) → Leaves s (redefined b s h a)
-redefined_leaves true s h a = record { fields = λ z y. refl; quiet = λ e. front_empty s.notes.broken (broken_at 20 h.at).broken e }
+redefined_leaves true s h a = record { fields = λ z y. refl; quiet = λ e. front_empty s.notes.broken (broken_at rule.UnmatchedRedefinition h.at).broken e }
 redefined_leaves false s h a = record { fields = λ z y. refl; quiet = λ e. e }
 
 method_leaves : (b : Bool) (u : Around) (map : Map) (s : Binding) (h : Head) (a : BoundAs) (q : QName) (m : Method) → Leaves s (bind_method b u map s h a q m)
@@ -62,7 +63,7 @@ method_leaves false u map s h a q m = redefined_leaves _ s h a
 
 by_leaves : (u : Around) (map : Map) (s : Binding) (h : Head) (a : BoundAs) (o : Option Member) → Leaves s (bind_by u map s h a o)
 by_leaves u map s h a None = record { fields = λ z y. changed_fields a.owner.object (new_method h a) s.own z y; quiet = λ e. e }
-by_leaves u map s h a (Some (AField q f)) = record { fields = λ z y. refl; quiet = λ e. front_empty s.notes.broken (notes_if (not h.forward) 1 h.at).broken e }
+by_leaves u map s h a (Some (AField q f)) = record { fields = λ z y. refl; quiet = λ e. front_empty s.notes.broken (notes_if (not h.forward) rule.DeclaredTwice h.at).broken e }
 by_leaves u map s h a (Some (AMethod q m)) = method_leaves _ u map s h a q m
 
 one_leaves : (u : Around) (s : Binding) (h : Head) (o : Option BoundAs) → Leaves s (bind_one u s h o)
@@ -116,7 +117,7 @@ clash : (u : Around) (map : Map) (s : Binding) (h : Head) (a : BoundAs) (o : Opt
 clash u map s h a None f e = refl
 clash u map s h a (Some (AMethod q m)) f e = refl
 clash u map s h a (Some (AField q g)) f e =
-    let bad : (notes_if (not false) 1 h.at).broken ≡ [] = subst (λ b. (notes_if (not b) 1 h.at).broken ≡ []) f (back_empty s.notes.broken (notes_if (not h.forward) 1 h.at).broken e) in
+    let bad : (notes_if (not false) rule.DeclaredTwice h.at).broken ≡ [] = subst (λ b. (notes_if (not b) rule.DeclaredTwice h.at).broken ≡ []) f (back_empty s.notes.broken (notes_if (not h.forward) rule.DeclaredTwice h.at).broken e) in
     absurd cc
 
 one_free : (u : Around) (s : Binding) (h : Head) (o : Option BoundAs) → (bind_one u s h o).notes.broken ≡ [] → h.forward ≡ false → (a : BoundAs) → o ≡ Some a → bytes_eq a.owner.«module» u.unit ≡ true → field_at s.own a.owner.object h.name ≡ false

@@ -3,6 +3,8 @@ use Rattle.std.proofs.Common.{◌≡◌, ℕ, zero, suc, ◌+◌, ◌*◌, List,
 use Rattle.std.specs.Prelude.{slice_get, nat_lt, nat_le, int_lt, not, if◌then◌else◌}
 use Rattle.std.specs.Int.{w32, int_div_euclid, int_rem_euclid, int_bit_and, int_bit_or, int_bit_xor, int_bit_not}
 use Rattle.std.specs.Ordering.{int_eq}
+use Rattle.ob_trap.specs.declared.trap.Trap.TheVariants as trap
+use Rattle.ob_trap.specs.Numbers.{trap_of}
 use Rattle.ob_tree.specs.declared.proc_ref.ProcRef.{ProcRef}
 use Rattle.ob_mem.specs.Words.{Held, word_at, are_there, with_words, stored, copied, heap_taken}
 use Rattle.ob_instr.specs.declared.opcode.Opcode.{Opcode}
@@ -11,7 +13,7 @@ use Rattle.ob_instr.specs.declared.instr.Instr.{Instr}
 use Rattle.ob_instr.specs.declared.procedure.Procedure.{Procedure}
 use Rattle.ob_instr.specs.Parts.{slots}
 use Rattle.ob_instr.specs.Image.{ModuleImage, Image, World, Act, End, Trapped, Illegal, Point, Go, Over}
-use Rattle.ob_instr.specs.Rows.{Effect, Next, Goto, Enter, Leave, Traps, Spends, Unable, on_found, item, below, up_to, is_zero, on_count, on_width, on_one, on_two, on_three, on_four, on_args, word, in_width, in_type, with_memory, truth, compared, is_within, magnitude, shifted, capital, on_element, set_from, has_element, tag, tag_passes, pointer_passes, Chars, Missing, Endless, Ends, chars_at, on_chars, on_both, related, turn_or, on_turn, jumped, copy_words, calls, calls_with, proc_value, proc_of_value, method_at, tag_method, pointer_method, on_receiver, on_tag, procedure_of, entered, taken, made, made_many, placed, copies_chars, where_there, written, written_chars, printed, padded, low_byte, low_bytes}
+use Rattle.ob_instr.specs.Rows.{Effect, Next, Goto, Enter, Leave, Traps, Spends, Unable, on_found, item, below, is_zero, on_count, on_width, on_one, on_two, on_three, on_four, on_args, word, in_width, in_type, with_memory, truth, compared, is_within, magnitude, shifted, capital, on_element, set_from, has_element, tag, tag_passes, pointer_passes, Chars, Missing, Endless, Ends, chars_at, on_chars, on_both, related, turn_or, on_turn, jumped, copy_words, calls, calls_with, proc_value, proc_of_value, method_at, tag_method, pointer_method, on_receiver, on_tag, procedure_of, entered, taken, made, made_many, placed, copies_chars, where_there, written, written_chars, printed, padded, low_byte, low_bytes}
 use Rattle.ob_instr.specs.Table as table
 use Rattle.ob_instr.specs.Table.{row, position_at, checked, has_room, left, come_to, act, act_in, step, run, begins, start}
 
@@ -78,13 +80,13 @@ module _ (o : List ℕ) where
   words v ops w = either w (in_width 4 v) (λ w. Next (v ∷ ops) w) (λ w. Unable) refl refl
 
   typed : (n : ℕ) (v : ℤ) (ops : List ℤ) (w : World) → in_type n v ops (put w) ≡ sh (in_type n v ops w)
-  typed n v ops w = either w (in_width n v) (λ w. Next (v ∷ ops) w) (λ w. Traps 8 (pos 0) w) refl refl
+  typed n v ops w = either w (in_width n v) (λ w. Next (v ∷ ops) w) (λ w. Traps trap.Overflow (pos 0) w) refl refl
 
   compare : (holds : ℤ → ℤ → Bool) (ops : List ℤ) (w : World) → compared holds ops (put w) ≡ sh (compared holds ops w)
   compare holds ops w = two w ops (λ w u v rest. Next (truth (holds u v) ∷ rest) w) (λ u v rest. refl)
 
   element : (v : ℤ) (w : World) (k : World → ℕ → Effect) → ((i : ℕ) → k (put w) i ≡ sh (k w i)) → on_element v (put w) (k (put w)) ≡ sh (on_element v w (k w))
-  element (pos i) w k h = either w (nat_lt i 32) (λ w. k w i) (λ w. Traps 9 (pos 0) w) (h i) refl
+  element (pos i) w k h = either w (nat_lt i 32) (λ w. k w i) (λ w. Traps trap.NoElement (pos 0) w) (h i) refl
   element (negsuc i) w k h = refl
 
   chars : (s : Chars) (w : World) (k : World → List ℤ → Effect) → ((l : List ℤ) → k (put w) l ≡ sh (k w l)) → on_chars s (put w) (k (put w)) ≡ sh (on_chars s w (k w))
@@ -140,7 +142,7 @@ module _ (o : List ℕ) where
 
   write_chars : (s : Chars) (ops : List ℤ) (w : World) → written_chars s ops (put w) ≡ sh (written_chars s ops w)
   write_chars Missing ops w = refl
-  write_chars Endless ops w = turn w (λ v. Traps 15 (pos 0) v) (λ n. refl)
+  write_chars Endless ops w = turn w (λ v. Traps trap.NoEnd (pos 0) v) (λ n. refl)
   write_chars (Ends l) ops w = turn w (λ v. Next ops (printed v (low_bytes l))) (λ n. more ops (record w { turns = n }) (low_bytes l))
 
   write : (a : ℤ) (ops : List ℤ) (w : World) → written a ops (put w) ≡ sh (written a ops w)
@@ -183,17 +185,17 @@ module _ (o : List ℕ) where
   row_shifts img u m p fb pc op.Store a b ops w = two w ops (λ w x v rest. on_found (stored w.words x v) (λ l. Next rest (with_memory w l))) (λ x v rest. store (stored w.words x v) rest w)
   row_shifts img u m p fb pc op.Copy a b ops w = count w a (λ w n. on_two ops (λ d s rest. on_found (copied w.words d s n) (λ l. Next rest (with_memory w l)))) (λ n. two w ops (λ w d s rest. on_found (copied w.words d s n) (λ l. Next rest (with_memory w l))) (λ d s rest. store (copied w.words d s n) rest w))
   row_shifts img u m p fb pc op.CopyRec a b ops w =
-      count w a (λ w n. on_found (item u.types b) (λ t. on_three ops (λ d g s rest. on_found (copied w.words d s n) (λ l. if int_eq g (tag t) then Next rest (with_memory w l) else Traps 14 (pos 0) w))))
-      (λ n. found w (item u.types b) (λ w t. on_three ops (λ d g s rest. on_found (copied w.words d s n) (λ l. if int_eq g (tag t) then Next rest (with_memory w l) else Traps 14 (pos 0) w)))
-      (λ t. three w ops (λ w d g s rest. on_found (copied w.words d s n) (λ l. if int_eq g (tag t) then Next rest (with_memory w l) else Traps 14 (pos 0) w))
-      (λ d g s rest. found w (copied w.words d s n) (λ w l. if int_eq g (tag t) then Next rest (with_memory w l) else Traps 14 (pos 0) w)
-      (λ l. either w (int_eq g (tag t)) (λ w. Next rest (with_memory w l)) (λ w. Traps 14 (pos 0) w) refl refl))))
+      count w a (λ w n. on_found (item u.types b) (λ t. on_three ops (λ d g s rest. on_found (copied w.words d s n) (λ l. if int_eq g (tag t) then Next rest (with_memory w l) else Traps trap.OtherType (pos 0) w))))
+      (λ n. found w (item u.types b) (λ w t. on_three ops (λ d g s rest. on_found (copied w.words d s n) (λ l. if int_eq g (tag t) then Next rest (with_memory w l) else Traps trap.OtherType (pos 0) w)))
+      (λ t. three w ops (λ w d g s rest. on_found (copied w.words d s n) (λ l. if int_eq g (tag t) then Next rest (with_memory w l) else Traps trap.OtherType (pos 0) w))
+      (λ d g s rest. found w (copied w.words d s n) (λ w l. if int_eq g (tag t) then Next rest (with_memory w l) else Traps trap.OtherType (pos 0) w)
+      (λ l. either w (int_eq g (tag t)) (λ w. Next rest (with_memory w l)) (λ w. Traps trap.OtherType (pos 0) w) refl refl))))
   row_shifts img u m p fb pc op.Offset a b ops w = one w ops (λ w x rest. word (x +ℤ a) rest w) (λ x rest. words (x +ℤ a) rest w)
-  row_shifts img u m p fb pc op.Index a b ops w = two w ops (λ w x i rest. if is_within i a then word (x +ℤ (i *ℤ b)) rest w else Traps 1 (pos 0) w) (λ x i rest. either w (is_within i a) (λ w. word (x +ℤ (i *ℤ b)) rest w) (λ w. Traps 1 (pos 0) w) (words (x +ℤ (i *ℤ b)) rest w) refl)
-  row_shifts img u m p fb pc op.IndexO a b ops w = three w ops (λ w x l i rest. if is_within i l then word (x +ℤ (i *ℤ a)) rest w else Traps 1 (pos 0) w) (λ x l i rest. either w (is_within i l) (λ w. word (x +ℤ (i *ℤ a)) rest w) (λ w. Traps 1 (pos 0) w) (words (x +ℤ (i *ℤ a)) rest w) refl)
-  row_shifts img u m p fb pc op.Deref a b ops w = one w ops (λ w x rest. if is_zero x then Traps 2 (pos 0) w else Next (x ∷ rest) w) (λ x rest. either w (is_zero x) (λ w. Traps 2 (pos 0) w) (λ w. Next (x ∷ rest) w) refl refl)
-  row_shifts img u m p fb pc op.Tagged a b ops w = one w ops (λ w x rest. if is_zero x then Traps 2 (pos 0) w else on_found (word_at w.words (x -ℤ pos 1)) (λ g. Next (g ∷ x ∷ rest) w)) (λ x rest. either w (is_zero x) (λ w. Traps 2 (pos 0) w) (λ w. on_found (word_at w.words (x -ℤ pos 1)) (λ g. Next (g ∷ x ∷ rest) w)) refl (found w (word_at w.words (x -ℤ pos 1)) (λ w g. Next (g ∷ x ∷ rest) w) (λ g. refl)))
-  row_shifts img u m p fb pc op.Lenned a b ops w = one w ops (λ w x rest. if is_zero x then Traps 2 (pos 0) w else on_found (word_at w.words (x -ℤ pos 1)) (λ g. Next (g ∷ x ∷ rest) w)) (λ x rest. either w (is_zero x) (λ w. Traps 2 (pos 0) w) (λ w. on_found (word_at w.words (x -ℤ pos 1)) (λ g. Next (g ∷ x ∷ rest) w)) refl (found w (word_at w.words (x -ℤ pos 1)) (λ w g. Next (g ∷ x ∷ rest) w) (λ g. refl)))
+  row_shifts img u m p fb pc op.Index a b ops w = two w ops (λ w x i rest. if is_within i a then word (x +ℤ (i *ℤ b)) rest w else Traps trap.IndexOutside (pos 0) w) (λ x i rest. either w (is_within i a) (λ w. word (x +ℤ (i *ℤ b)) rest w) (λ w. Traps trap.IndexOutside (pos 0) w) (words (x +ℤ (i *ℤ b)) rest w) refl)
+  row_shifts img u m p fb pc op.IndexO a b ops w = three w ops (λ w x l i rest. if is_within i l then word (x +ℤ (i *ℤ a)) rest w else Traps trap.IndexOutside (pos 0) w) (λ x l i rest. either w (is_within i l) (λ w. word (x +ℤ (i *ℤ a)) rest w) (λ w. Traps trap.IndexOutside (pos 0) w) (words (x +ℤ (i *ℤ a)) rest w) refl)
+  row_shifts img u m p fb pc op.Deref a b ops w = one w ops (λ w x rest. if is_zero x then Traps trap.Nil (pos 0) w else Next (x ∷ rest) w) (λ x rest. either w (is_zero x) (λ w. Traps trap.Nil (pos 0) w) (λ w. Next (x ∷ rest) w) refl refl)
+  row_shifts img u m p fb pc op.Tagged a b ops w = one w ops (λ w x rest. if is_zero x then Traps trap.Nil (pos 0) w else on_found (word_at w.words (x -ℤ pos 1)) (λ g. Next (g ∷ x ∷ rest) w)) (λ x rest. either w (is_zero x) (λ w. Traps trap.Nil (pos 0) w) (λ w. on_found (word_at w.words (x -ℤ pos 1)) (λ g. Next (g ∷ x ∷ rest) w)) refl (found w (word_at w.words (x -ℤ pos 1)) (λ w g. Next (g ∷ x ∷ rest) w) (λ g. refl)))
+  row_shifts img u m p fb pc op.Lenned a b ops w = one w ops (λ w x rest. if is_zero x then Traps trap.Nil (pos 0) w else on_found (word_at w.words (x -ℤ pos 1)) (λ g. Next (g ∷ x ∷ rest) w)) (λ x rest. either w (is_zero x) (λ w. Traps trap.Nil (pos 0) w) (λ w. on_found (word_at w.words (x -ℤ pos 1)) (λ g. Next (g ∷ x ∷ rest) w)) refl (found w (word_at w.words (x -ℤ pos 1)) (λ w g. Next (g ∷ x ∷ rest) w) (λ g. refl)))
   row_shifts img u m p fb pc op.Tag a b ops w = found w (item u.types a) (λ w t. word (tag t) ops w) (λ t. words (tag t) ops w)
   row_shifts img u m p fb pc op.IsP a b ops w =
       found w (item u.types a) (λ w t. on_one ops (λ x rest. on_found (pointer_passes img.types w.words x t) (λ yes. Next (truth yes ∷ rest) w)))
@@ -202,20 +204,20 @@ module _ (o : List ℕ) where
       found w (item u.types a) (λ w t. on_one ops (λ g rest. on_found (tag_passes img.types g t) (λ yes. Next (truth yes ∷ rest) w)))
       (λ t. one w ops (λ w g rest. on_found (tag_passes img.types g t) (λ yes. Next (truth yes ∷ rest) w)) (λ g rest. found w (tag_passes img.types g t) (λ w yes. Next (truth yes ∷ rest) w) (λ yes. refl)))
   row_shifts img u m p fb pc op.GuardAt a b ops w =
-      found w (item u.types a) (λ w t. on_one ops (λ x rest. on_found (word_at w.words x) (λ v. on_found (pointer_passes img.types w.words v t) (λ yes. if yes then Next (x ∷ rest) w else Traps 3 (pos 0) w))))
-      (λ t. one w ops (λ w x rest. on_found (word_at w.words x) (λ v. on_found (pointer_passes img.types w.words v t) (λ yes. if yes then Next (x ∷ rest) w else Traps 3 (pos 0) w)))
-      (λ x rest. found w (word_at w.words x) (λ w v. on_found (pointer_passes img.types w.words v t) (λ yes. if yes then Next (x ∷ rest) w else Traps 3 (pos 0) w))
-      (λ v. found w (pointer_passes img.types w.words v t) (λ w yes. if yes then Next (x ∷ rest) w else Traps 3 (pos 0) w) (λ yes. either w yes (λ w. Next (x ∷ rest) w) (λ w. Traps 3 (pos 0) w) refl refl))))
+      found w (item u.types a) (λ w t. on_one ops (λ x rest. on_found (word_at w.words x) (λ v. on_found (pointer_passes img.types w.words v t) (λ yes. if yes then Next (x ∷ rest) w else Traps trap.GuardFails (pos 0) w))))
+      (λ t. one w ops (λ w x rest. on_found (word_at w.words x) (λ v. on_found (pointer_passes img.types w.words v t) (λ yes. if yes then Next (x ∷ rest) w else Traps trap.GuardFails (pos 0) w)))
+      (λ x rest. found w (word_at w.words x) (λ w v. on_found (pointer_passes img.types w.words v t) (λ yes. if yes then Next (x ∷ rest) w else Traps trap.GuardFails (pos 0) w))
+      (λ v. found w (pointer_passes img.types w.words v t) (λ w yes. if yes then Next (x ∷ rest) w else Traps trap.GuardFails (pos 0) w) (λ yes. either w yes (λ w. Next (x ∷ rest) w) (λ w. Traps trap.GuardFails (pos 0) w) refl refl))))
   row_shifts img u m p fb pc op.GuardR a b ops w =
-      found w (item u.types a) (λ w t. on_one ops (λ g rest. on_found (tag_passes img.types g t) (λ yes. if yes then Next (g ∷ rest) w else Traps 3 (pos 0) w)))
-      (λ t. one w ops (λ w g rest. on_found (tag_passes img.types g t) (λ yes. if yes then Next (g ∷ rest) w else Traps 3 (pos 0) w))
-      (λ g rest. found w (tag_passes img.types g t) (λ w yes. if yes then Next (g ∷ rest) w else Traps 3 (pos 0) w) (λ yes. either w yes (λ w. Next (g ∷ rest) w) (λ w. Traps 3 (pos 0) w) refl refl)))
+      found w (item u.types a) (λ w t. on_one ops (λ g rest. on_found (tag_passes img.types g t) (λ yes. if yes then Next (g ∷ rest) w else Traps trap.GuardFails (pos 0) w)))
+      (λ t. one w ops (λ w g rest. on_found (tag_passes img.types g t) (λ yes. if yes then Next (g ∷ rest) w else Traps trap.GuardFails (pos 0) w))
+      (λ g rest. found w (tag_passes img.types g t) (λ w yes. if yes then Next (g ∷ rest) w else Traps trap.GuardFails (pos 0) w) (λ yes. either w yes (λ w. Next (g ∷ rest) w) (λ w. Traps trap.GuardFails (pos 0) w) refl refl)))
   row_shifts img u m p fb pc op.Drop a b ops w = one w ops (λ w v rest. Next rest w) (λ v rest. refl)
   row_shifts img u m p fb pc op.Add a b ops w = width w a (λ w n. on_two ops (λ x y rest. in_type n (x +ℤ y) rest w)) (λ n. two w ops (λ w x y rest. in_type n (x +ℤ y) rest w) (λ x y rest. typed n (x +ℤ y) rest w))
   row_shifts img u m p fb pc op.Sub a b ops w = width w a (λ w n. on_two ops (λ x y rest. in_type n (x -ℤ y) rest w)) (λ n. two w ops (λ w x y rest. in_type n (x -ℤ y) rest w) (λ x y rest. typed n (x -ℤ y) rest w))
   row_shifts img u m p fb pc op.Mul a b ops w = width w a (λ w n. on_two ops (λ x y rest. in_type n (x *ℤ y) rest w)) (λ n. two w ops (λ w x y rest. in_type n (x *ℤ y) rest w) (λ x y rest. typed n (x *ℤ y) rest w))
-  row_shifts img u m p fb pc op.Div a b ops w = two w ops (λ w x y rest. if int_lt (pos 0) y then Next (int_div_euclid x y ∷ rest) w else Traps 7 (pos 0) w) (λ x y rest. either w (int_lt (pos 0) y) (λ w. Next (int_div_euclid x y ∷ rest) w) (λ w. Traps 7 (pos 0) w) refl refl)
-  row_shifts img u m p fb pc op.Mod a b ops w = two w ops (λ w x y rest. if int_lt (pos 0) y then Next (int_rem_euclid x y ∷ rest) w else Traps 7 (pos 0) w) (λ x y rest. either w (int_lt (pos 0) y) (λ w. Next (int_rem_euclid x y ∷ rest) w) (λ w. Traps 7 (pos 0) w) refl refl)
+  row_shifts img u m p fb pc op.Div a b ops w = two w ops (λ w x y rest. if int_lt (pos 0) y then Next (int_div_euclid x y ∷ rest) w else Traps trap.NoDivisor (pos 0) w) (λ x y rest. either w (int_lt (pos 0) y) (λ w. Next (int_div_euclid x y ∷ rest) w) (λ w. Traps trap.NoDivisor (pos 0) w) refl refl)
+  row_shifts img u m p fb pc op.Mod a b ops w = two w ops (λ w x y rest. if int_lt (pos 0) y then Next (int_rem_euclid x y ∷ rest) w else Traps trap.NoDivisor (pos 0) w) (λ x y rest. either w (int_lt (pos 0) y) (λ w. Next (int_rem_euclid x y ∷ rest) w) (λ w. Traps trap.NoDivisor (pos 0) w) refl refl)
   row_shifts img u m p fb pc op.Neg a b ops w = width w a (λ w n. on_one ops (λ v rest. in_type n (neg_ℤ v) rest w)) (λ n. one w ops (λ w v rest. in_type n (neg_ℤ v) rest w) (λ v rest. typed n (neg_ℤ v) rest w))
   row_shifts img u m p fb pc op.Abs a b ops w = width w a (λ w n. on_one ops (λ v rest. in_type n (magnitude v) rest w)) (λ n. one w ops (λ w v rest. in_type n (magnitude v) rest w) (λ v rest. typed n (magnitude v) rest w))
   row_shifts img u m p fb pc op.Eq a b ops w = compare int_eq ops w
@@ -242,20 +244,20 @@ module _ (o : List ℕ) where
       (λ x v rest. found w (word_at w.words x) (λ w s. on_element v w (λ i. on_found (stored w.words x (int_bit_and w32 s (int_bit_not w32 (set_from i i)))) (λ l. Next rest (with_memory w l))))
       (λ s. element v w (λ w i. on_found (stored w.words x (int_bit_and w32 s (int_bit_not w32 (set_from i i)))) (λ l. Next rest (with_memory w l))) (λ i. store (stored w.words x (int_bit_and w32 s (int_bit_not w32 (set_from i i)))) rest w)))
   row_shifts img u m p fb pc op.Range a b ops w = width w a (λ w n. on_one ops (λ v rest. in_type n v rest w)) (λ n. one w ops (λ w v rest. in_type n v rest w) (λ v rest. typed n v rest w))
-  row_shifts img u m p fb pc op.Chr a b ops w = one w ops (λ w v rest. if is_within v (pos 256) then Next (v ∷ rest) w else Traps 8 (pos 0) w) (λ v rest. either w (is_within v (pos 256)) (λ w. Next (v ∷ rest) w) (λ w. Traps 8 (pos 0) w) refl refl)
+  row_shifts img u m p fb pc op.Chr a b ops w = one w ops (λ w v rest. if is_within v (pos 256) then Next (v ∷ rest) w else Traps trap.Overflow (pos 0) w) (λ v rest. either w (is_within v (pos 256)) (λ w. Next (v ∷ rest) w) (λ w. Traps trap.Overflow (pos 0) w) refl refl)
   row_shifts img u m p fb pc op.Odd a b ops w = one w ops (λ w v rest. Next (int_rem_euclid v (pos 2) ∷ rest) w) (λ v rest. refl)
   row_shifts img u m p fb pc op.Cap a b ops w = one w ops (λ w v rest. Next (capital v ∷ rest) w) (λ v rest. refl)
   row_shifts img u m p fb pc op.Ash a b ops w = two w ops (λ w x n rest. in_type 4 (shifted x n) rest w) (λ x n rest. typed 4 (shifted x n) rest w)
   row_shifts img u m p fb pc op.Inc a b ops w =
-      width w a (λ w n. on_two ops (λ x d rest. on_found (word_at w.words x) (λ v. if in_width n (v +ℤ d) then on_found (stored w.words x (v +ℤ d)) (λ l. Next rest (with_memory w l)) else Traps 8 (pos 0) w)))
-      (λ n. two w ops (λ w x d rest. on_found (word_at w.words x) (λ v. if in_width n (v +ℤ d) then on_found (stored w.words x (v +ℤ d)) (λ l. Next rest (with_memory w l)) else Traps 8 (pos 0) w))
-      (λ x d rest. found w (word_at w.words x) (λ w v. if in_width n (v +ℤ d) then on_found (stored w.words x (v +ℤ d)) (λ l. Next rest (with_memory w l)) else Traps 8 (pos 0) w)
-      (λ v. either w (in_width n (v +ℤ d)) (λ w. on_found (stored w.words x (v +ℤ d)) (λ l. Next rest (with_memory w l))) (λ w. Traps 8 (pos 0) w) (store (stored w.words x (v +ℤ d)) rest w) refl)))
+      width w a (λ w n. on_two ops (λ x d rest. on_found (word_at w.words x) (λ v. if in_width n (v +ℤ d) then on_found (stored w.words x (v +ℤ d)) (λ l. Next rest (with_memory w l)) else Traps trap.Overflow (pos 0) w)))
+      (λ n. two w ops (λ w x d rest. on_found (word_at w.words x) (λ v. if in_width n (v +ℤ d) then on_found (stored w.words x (v +ℤ d)) (λ l. Next rest (with_memory w l)) else Traps trap.Overflow (pos 0) w))
+      (λ x d rest. found w (word_at w.words x) (λ w v. if in_width n (v +ℤ d) then on_found (stored w.words x (v +ℤ d)) (λ l. Next rest (with_memory w l)) else Traps trap.Overflow (pos 0) w)
+      (λ v. either w (in_width n (v +ℤ d)) (λ w. on_found (stored w.words x (v +ℤ d)) (λ l. Next rest (with_memory w l))) (λ w. Traps trap.Overflow (pos 0) w) (store (stored w.words x (v +ℤ d)) rest w) refl)))
   row_shifts img u m p fb pc op.Dec a b ops w =
-      width w a (λ w n. on_two ops (λ x d rest. on_found (word_at w.words x) (λ v. if in_width n (v -ℤ d) then on_found (stored w.words x (v -ℤ d)) (λ l. Next rest (with_memory w l)) else Traps 8 (pos 0) w)))
-      (λ n. two w ops (λ w x d rest. on_found (word_at w.words x) (λ v. if in_width n (v -ℤ d) then on_found (stored w.words x (v -ℤ d)) (λ l. Next rest (with_memory w l)) else Traps 8 (pos 0) w))
-      (λ x d rest. found w (word_at w.words x) (λ w v. if in_width n (v -ℤ d) then on_found (stored w.words x (v -ℤ d)) (λ l. Next rest (with_memory w l)) else Traps 8 (pos 0) w)
-      (λ v. either w (in_width n (v -ℤ d)) (λ w. on_found (stored w.words x (v -ℤ d)) (λ l. Next rest (with_memory w l))) (λ w. Traps 8 (pos 0) w) (store (stored w.words x (v -ℤ d)) rest w) refl)))
+      width w a (λ w n. on_two ops (λ x d rest. on_found (word_at w.words x) (λ v. if in_width n (v -ℤ d) then on_found (stored w.words x (v -ℤ d)) (λ l. Next rest (with_memory w l)) else Traps trap.Overflow (pos 0) w)))
+      (λ n. two w ops (λ w x d rest. on_found (word_at w.words x) (λ v. if in_width n (v -ℤ d) then on_found (stored w.words x (v -ℤ d)) (λ l. Next rest (with_memory w l)) else Traps trap.Overflow (pos 0) w))
+      (λ x d rest. found w (word_at w.words x) (λ w v. if in_width n (v -ℤ d) then on_found (stored w.words x (v -ℤ d)) (λ l. Next rest (with_memory w l)) else Traps trap.Overflow (pos 0) w)
+      (λ v. either w (in_width n (v -ℤ d)) (λ w. on_found (stored w.words x (v -ℤ d)) (λ l. Next rest (with_memory w l))) (λ w. Traps trap.Overflow (pos 0) w) (store (stored w.words x (v -ℤ d)) rest w) refl)))
   row_shifts img u m p fb pc op.StrRel a b ops w =
       found w (below 6 a) (λ w r. on_four ops (λ x l y n rest. on_both (chars_at w.words x l) (chars_at w.words y n) w (λ s t. Next (truth (related r s t) ∷ rest) w)))
       (λ r. four w ops (λ w x l y n rest. on_both (chars_at w.words x l) (chars_at w.words y n) w (λ s t. Next (truth (related r s t) ∷ rest) w)) (λ x l y n rest. both (chars_at w.words x l) (chars_at w.words y n) w (λ w s t. Next (truth (related r s t) ∷ rest) w) (λ s t. refl)))
@@ -264,8 +266,8 @@ module _ (o : List ℕ) where
   row_shifts img u m p fb pc op.JumpF a b ops w =
       found w (below (length u.code) a) (λ w at. on_one ops (λ v rest. if is_zero v then jumped pc at rest w else Next rest w))
       (λ at. one w ops (λ w v rest. if is_zero v then jumped pc at rest w else Next rest w) (λ v rest. either w (is_zero v) (λ w. jumped pc at rest w) (λ w. Next rest w) (jumps pc at rest w) refl))
-  row_shifts img u m p fb pc op.Trap a b ops w = found w (up_to 16 a) (λ w kind. Traps kind b w) (λ kind. refl)
-  row_shifts img u m p fb pc op.Assert a b ops w = one w ops (λ w v rest. if is_zero v then Traps 10 a w else Next rest w) (λ v rest. either w (is_zero v) (λ w. Traps 10 a w) (λ w. Next rest w) refl refl)
+  row_shifts img u m p fb pc op.Trap a b ops w = found w (trap_of a) (λ w kind. Traps kind b w) (λ kind. refl)
+  row_shifts img u m p fb pc op.Assert a b ops w = one w ops (λ w v rest. if is_zero v then Traps trap.AssertionFails a w else Next rest w) (λ v rest. either w (is_zero v) (λ w. Traps trap.AssertionFails a w) (λ w. Next rest w) refl refl)
   row_shifts img u m p fb pc op.NewR a b ops w =
       found w (item u.types a) (λ w t. on_found (slice_get img.types t) (λ d. on_one ops (λ x rest. where_there w x (made x (tag t ∷ []) d.words rest w))))
       (λ t. found w (slice_get img.types t) (λ w d. on_one ops (λ x rest. where_there w x (made x (tag t ∷ []) d.words rest w)))
@@ -277,15 +279,15 @@ module _ (o : List ℕ) where
   row_shifts img u m p fb pc op.Call a b ops w = found w (below (length u.procedures) a) (λ w q. calls_with img (record { «module» = m; proc = q }) ops w) (λ q. call_with img (record { «module» = m; proc = q }) ops w)
   row_shifts img u m p fb pc op.CallX a b ops w = found w (item u.procedure_links a) (λ w r. calls_with img r ops w) (λ r. call_with img r ops w)
   row_shifts img u m p fb pc op.CallV a b ops w =
-      count w a (λ w n. on_args n ops (λ args rest. on_one rest (λ v below. if is_zero v then Traps 2 (pos 0) w else on_found (proc_of_value v) (λ r. calls img r args below w))))
-      (λ n. args w n ops (λ w args rest. on_one rest (λ v below. if is_zero v then Traps 2 (pos 0) w else on_found (proc_of_value v) (λ r. calls img r args below w)))
-      (λ l rest. one w rest (λ w v below. if is_zero v then Traps 2 (pos 0) w else on_found (proc_of_value v) (λ r. calls img r l below w))
-      (λ v low. either w (is_zero v) (λ w. Traps 2 (pos 0) w) (λ w. on_found (proc_of_value v) (λ r. calls img r l low w)) refl (found w (proc_of_value v) (λ w r. calls img r l low w) (λ r. call img r l low w)))))
+      count w a (λ w n. on_args n ops (λ args rest. on_one rest (λ v below. if is_zero v then Traps trap.Nil (pos 0) w else on_found (proc_of_value v) (λ r. calls img r args below w))))
+      (λ n. args w n ops (λ w args rest. on_one rest (λ v below. if is_zero v then Traps trap.Nil (pos 0) w else on_found (proc_of_value v) (λ r. calls img r args below w)))
+      (λ l rest. one w rest (λ w v below. if is_zero v then Traps trap.Nil (pos 0) w else on_found (proc_of_value v) (λ r. calls img r l below w))
+      (λ v low. either w (is_zero v) (λ w. Traps trap.Nil (pos 0) w) (λ w. on_found (proc_of_value v) (λ r. calls img r l low w)) refl (found w (proc_of_value v) (λ w r. calls img r l low w) (λ r. call img r l low w)))))
   row_shifts img u m p fb pc op.CallP a b ops w =
-      count w b (λ w n. on_args (suc n) ops (λ args rest. on_receiver args (λ x. if is_zero x then Traps 2 (pos 0) w else pointer_method img w x a (λ r. calls img r args rest w))))
-      (λ n. args w (suc n) ops (λ w args rest. on_receiver args (λ x. if is_zero x then Traps 2 (pos 0) w else pointer_method img w x a (λ r. calls img r args rest w)))
-      (λ l rest. receiver w l (λ w x. if is_zero x then Traps 2 (pos 0) w else pointer_method img w x a (λ r. calls img r l rest w))
-      (λ x. either w (is_zero x) (λ w. Traps 2 (pos 0) w) (λ w. pointer_method img w x a (λ r. calls img r l rest w)) refl (method img w x a (λ w r. calls img r l rest w) (λ r. call img r l rest w)))))
+      count w b (λ w n. on_args (suc n) ops (λ args rest. on_receiver args (λ x. if is_zero x then Traps trap.Nil (pos 0) w else pointer_method img w x a (λ r. calls img r args rest w))))
+      (λ n. args w (suc n) ops (λ w args rest. on_receiver args (λ x. if is_zero x then Traps trap.Nil (pos 0) w else pointer_method img w x a (λ r. calls img r args rest w)))
+      (λ l rest. receiver w l (λ w x. if is_zero x then Traps trap.Nil (pos 0) w else pointer_method img w x a (λ r. calls img r l rest w))
+      (λ x. either w (is_zero x) (λ w. Traps trap.Nil (pos 0) w) (λ w. pointer_method img w x a (λ r. calls img r l rest w)) refl (method img w x a (λ w r. calls img r l rest w) (λ r. call img r l rest w)))))
   row_shifts img u m p fb pc op.CallR a b ops w =
       count w b (λ w n. on_args (suc (suc n)) ops (λ args rest. on_tag args (λ g. on_found (tag_method img g a) (λ r. calls img r args rest w))))
       (λ n. args w (suc (suc n)) ops (λ w args rest. on_tag args (λ g. on_found (tag_method img g a) (λ r. calls img r args rest w)))
@@ -314,7 +316,7 @@ module _ (o : List ℕ) where
   come_shifts img u m p fb acts pc v (Goto to ops w) = refl
   come_shifts img u m p fb acts pc v (Enter r q args n ops w) =
       let need = slots q.params + q.locals + n in
-      either_point (has_room img.room need acts w) (Go r.module r.proc w.stack (record { m = m; p = p; fb = fb; pc = suc pc; ops = ops } ∷ acts) q.entry [] (record w { words = entered w.words w.stack q args; stack = w.stack + need })) (Over (Trapped 13 (pos 0) m (position_at u.positions pc)) w)
+      either_point (has_room img.room need acts w) (Go r.module r.proc w.stack (record { m = m; p = p; fb = fb; pc = suc pc; ops = ops } ∷ acts) q.entry [] (record w { words = entered w.words w.stack q args; stack = w.stack + need })) (Over (Trapped trap.StackFull (pos 0) m (position_at u.positions pc)) w)
   come_shifts img u m p fb acts pc v (Leave given w) = left_shifts fb acts given w
   come_shifts img u m p fb acts pc v (Traps kind number w) = refl
   come_shifts img u m p fb acts pc v (Spends w) = refl

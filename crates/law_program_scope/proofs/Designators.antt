@@ -31,6 +31,7 @@ use Rattle.ob_rules.specs.declared.meant.Chosen.{Chosen}
 use Rattle.ob_rules.specs.declared.meant.Meant.{Meant}
 use Rattle.ob_rules.specs.declared.meant.Meant.TheVariants as means
 use Rattle.ob_rules.specs.declared.meant.Where.{Where}
+use Rattle.ob_rules.specs.declared.broken.Rule.TheVariants as rule
 use Rattle.ob_rules.specs.Judged.{Judged, sound, found_or, made}
 use Rattle.ob_rules.specs.Shapes.{Map, Member, AField, AMethod, member, pointed, record_of, array_of, is_array, is_held, signature_at, base_record}
 use Rattle.ob_rules.specs.Names.{Around, map_of, find_name, is_enclosing, variable_known, entity_known, name_known, named, exported, is_out, out_procedure, type_named}
@@ -72,7 +73,7 @@ pub variable_keeps : (k : Context) (u : Around) (at : Pos) (v : Variable) (t : T
 variable_keeps k u at v t b h = guards_keep k (map_of u) at v u.guards (sound (variable_at v t b)) (variable_ok k v t b h)
 
 guard_keeps : (k : Context) (map : Map) (at : Pos) (p : Place) (t : TypeRef) → PlaceOk k p → Keeps (MeantOk k) (guard map at p t)
-guard_keeps k map at p t h = then_keeps Anything (MeantOk k) (found_or 23 at (guard_of map p t)) _ (any_keeps (found_or 23 at (guard_of map p t))) (λ g q. guarded_ok k p g t at true h)
+guard_keeps k map at p t h = then_keeps Anything (MeantOk k) (found_or rule.UnfitTypeTest at (guard_of map p t)) _ (any_keeps (found_or rule.UnfitTypeTest at (guard_of map p t))) (λ g q. guarded_ok k p g t at true h)
 
 -- ---- dereferences, indices and fields
 
@@ -100,7 +101,7 @@ indexed_ok k p at i a h g = (named_d k _ (AnIndex (designator_view p.designator.
 
 into_keeps : (k : Context) (map : Map) (at : Pos) (p : Place) (i : Judged Valued) (o : Option (Option ℕ × TypeRef)) → PlaceOk k p → Keeps (ValuedOk k) i → Keeps (PlaceOk k) (index_into map at p i o)
 into_keeps k map at p i None h g = tt
-into_keeps k map at p i (Some a) h g = then_keeps (ValuedOk k) (PlaceOk k) i _ g (λ x q. wants_keeps (PlaceOk k) (is_integer map x) 22 at (indexed p at x a) (indexed_ok k p at x a h q))
+into_keeps k map at p i (Some a) h g = then_keeps (ValuedOk k) (PlaceOk k) i _ g (λ x q. wants_keeps (PlaceOk k) (is_integer map x) rule.UnfitSelector at (indexed p at x a) (indexed_ok k p at x a h q))
 
 index_if_keeps : (k : Context) (o : Option Place) (i : Judged Valued) (f : Place → Judged Place) → IfThere (PlaceOk k) o → ((p : Place) → PlaceOk k p → Keeps (PlaceOk k) (f p)) → Keeps (PlaceOk k) (index_if o i f)
 index_if_keeps k None i f h g = tt

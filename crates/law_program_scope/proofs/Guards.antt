@@ -30,6 +30,7 @@ use Rattle.ob_rules.specs.declared.values.Valued.{Valued}
 use Rattle.ob_rules.specs.declared.meant.Meant.{Meant}
 use Rattle.ob_rules.specs.declared.meant.Meant.TheVariants as means
 use Rattle.ob_rules.specs.declared.meant.Where.TheVariants.{InExpression}
+use Rattle.ob_rules.specs.declared.broken.Rule.TheVariants as rule
 use Rattle.ob_rules.specs.Judged.{Judged, sound, both, made, ◌▷◌}
 use Rattle.ob_rules.specs.Shapes.{Map}
 use Rattle.ob_rules.specs.Names.{Around, map_of, named, find_name, type_named}
@@ -51,13 +52,13 @@ use Rattle.law_lists.proofs.Lists.{Anything, IfThere}
 -- ---- FOR
 
 for_variable_keeps : (k : Context) (u : Around) → Stands k u → (at : Pos) (x : Ident) (e : Entity) → EntityOk k e → Keeps (PlaceOk k) (for_variable u at x e)
-for_variable_keeps k u s at x (entity.Variable v t) h = then_keeps (PlaceOk k) (PlaceOk k) (variable_named u x.pos v t false) (λ p. integer_place (map_of u) at p) (variable_keeps k u x.pos v t false h) (λ p q. wants_keeps (PlaceOk k) _ 34 at p q)
+for_variable_keeps k u s at x (entity.Variable v t) h = then_keeps (PlaceOk k) (PlaceOk k) (variable_named u x.pos v t false) (λ p. integer_place (map_of u) at p) (variable_keeps k u x.pos v t false h) (λ p q. wants_keeps (PlaceOk k) _ rule.UnfitFor at p q)
 for_variable_keeps k u s at x (entity.TypeName t) h = tt
 for_variable_keeps k u s at x (entity.Module m) h = tt
 for_variable_keeps k u s at x e h = tt
 
 bound_keeps : (k : Context) (map : Map) (at : Pos) (p : Place) (j : Judged Valued) → Keeps (ValuedOk k) j → Keeps (E k) (bound_if map at (Some p) j)
-bound_keeps k map at p j h = then_keeps (ValuedOk k) (E k) j (for_bound map at p) h (λ x q. wants_keeps (E k) (fits map p.of x) 34 at (tree x) (tree_ok k x q))
+bound_keeps k map at p j h = then_keeps (ValuedOk k) (E k) j (for_bound map at p) h (λ x q. wants_keeps (E k) (fits map p.of x) rule.UnfitFor at (tree x) (tree_ok k x q))
 
 -- a step that is 0 breaks a rule
 step_fits : (z : ℤ) → int_eq z (pos 0) ≡ false → StepFits z
@@ -66,7 +67,7 @@ step_fits (pos (suc n)) e = tt
 step_fits (negsuc n) e = tt
 
 step_keeps : (at : Pos) (v : Value) → Keeps StepFits (step_value at v)
-step_keeps at (literal.Int z) = unless_so StepFits (int_eq z (pos 0)) 34 at z (step_fits z)
+step_keeps at (literal.Int z) = unless_so StepFits (int_eq z (pos 0)) rule.UnfitFor at z (step_fits z)
 step_keeps at (literal.Bool b) = tt
 step_keeps at (literal.Char c) = tt
 step_keeps at (literal.Set n) = tt
@@ -113,7 +114,7 @@ with_meant_keeps k u s None x = designates_keeps k u s InExpression x [] tt
 with_meant_keeps k u s (Some m) x = qualified_keeps k u s m x (find_name u.known m.name)
 
 with_place_keeps : (k : Context) (map : Map) (at : Pos) (m : Meant) → MeantOk k m → Keeps (PlaceOk k) (with_place map at m)
-with_place_keeps k map at (means.Place p) h = wants_keeps (PlaceOk k) _ 37 at p h
+with_place_keeps k map at (means.Place p) h = wants_keeps (PlaceOk k) _ rule.UnfitWith at p h
 with_place_keeps k map at m h = tt
 
 guard_test_ok : (k : Context) (p : Place) (g : Guarded) (q : QName) → PlaceOk k p → E k (guard_test p g q)

@@ -19,6 +19,7 @@ use Rattle.ob_rules.specs.declared.values.Valued.{Valued}
 use Rattle.ob_rules.specs.declared.values.Valued.TheVariants as valued
 use Rattle.ob_rules.specs.declared.meant.Meant.{Meant}
 use Rattle.ob_rules.specs.declared.meant.Meant.TheVariants as means
+use Rattle.ob_rules.specs.declared.broken.Rule.{Rule}
 use Rattle.ob_rules.specs.Judged.{Judged, sound, if_sound, paired, both, made, each_sound, unless, wants, also, found_or, ◌▷◌}
 use Rattle.ob_rules.specs.Names.{Around, find_name, is_enclosing}
 use Rattle.ob_rules.specs.Values.{tree}
@@ -96,22 +97,22 @@ each_keep Q [] h = tt
 each_keep Q (j ∷ js) h = made_keeps (λ p. Q p.0 × AllByRecursion Q p.1) (AllByRecursion Q) (λ p. p.0 ∷ p.1) (both j (each_sound js)) (both_keep Q (AllByRecursion Q) j (each_sound js) h.0 (each_keep Q js h.1)) (λ p q. q)
 
 -- where a rule is kept there is a node
-pub unless_so : {A : Type 0} (Q : A → Type 0) (b : Bool) (rule : ℕ) (at : Pos) (x : A) → (b ≡ false → Q x) → Keeps Q (unless b rule at x)
+pub unless_so : {A : Type 0} (Q : A → Type 0) (b : Bool) (rule : Rule) (at : Pos) (x : A) → (b ≡ false → Q x) → Keeps Q (unless b rule at x)
 unless_so Q true rule at x h = tt
 unless_so Q false rule at x h = h refl
 
-pub unless_keeps : {A : Type 0} (Q : A → Type 0) (b : Bool) (rule : ℕ) (at : Pos) (x : A) → Q x → Keeps Q (unless b rule at x)
+pub unless_keeps : {A : Type 0} (Q : A → Type 0) (b : Bool) (rule : Rule) (at : Pos) (x : A) → Q x → Keeps Q (unless b rule at x)
 unless_keeps Q b rule at x h = unless_so Q b rule at x (λ e. h)
 
-pub wants_keeps : {A : Type 0} (Q : A → Type 0) (b : Bool) (rule : ℕ) (at : Pos) (x : A) → Q x → Keeps Q (wants b rule at x)
+pub wants_keeps : {A : Type 0} (Q : A → Type 0) (b : Bool) (rule : Rule) (at : Pos) (x : A) → Q x → Keeps Q (wants b rule at x)
 wants_keeps Q true rule at x h = h
 wants_keeps Q false rule at x h = tt
 
-pub found_keeps : {A : Type 0} (Q : A → Type 0) (rule : ℕ) (at : Pos) (o : Option A) → IfThere Q o → Keeps Q (found_or rule at o)
+pub found_keeps : {A : Type 0} (Q : A → Type 0) (rule : Rule) (at : Pos) (o : Option A) → IfThere Q o → Keeps Q (found_or rule at o)
 found_keeps Q rule at None h = tt
 found_keeps Q rule at (Some x) h = h
 
-pub also_keeps : {A : Type 0} (Q : A → Type 0) (b : Bool) (rule : ℕ) (at : Pos) (j : Judged A) → Keeps Q j → Keeps Q (also b rule at j)
+pub also_keeps : {A : Type 0} (Q : A → Type 0) (b : Bool) (rule : Rule) (at : Pos) (j : Judged A) → Keeps Q j → Keeps Q (also b rule at j)
 also_keeps Q true rule at j h = tt
 also_keeps Q false rule at j h = h
 

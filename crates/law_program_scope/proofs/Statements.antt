@@ -21,6 +21,7 @@ use Rattle.ob_rules.specs.declared.meant.Meant.{Meant}
 use Rattle.ob_rules.specs.declared.meant.Meant.TheVariants as means
 use Rattle.ob_rules.specs.declared.meant.Selects.{Selects}
 use Rattle.ob_rules.specs.declared.meant.Where.TheVariants.{AsStatement, Elsewhere}
+use Rattle.ob_rules.specs.declared.broken.Rule.TheVariants as rule
 use Rattle.ob_rules.specs.Judged.{Judged, sound, both, ◌▷◌}
 use Rattle.ob_rules.specs.Shapes.{Map, signature_at, is_array}
 use Rattle.ob_rules.specs.Names.{Around, map_of}
@@ -65,7 +66,7 @@ turn_if_keeps k u s (Some fs) g = made_keeps (AreOk k) (IfThere (AreOk k)) (λ x
 -- ---- assignments and calls
 
 target_keeps : (k : Context) (at : Pos) (m : Meant) → MeantOk k m → Keeps (PlaceOk k) (target at m)
-target_keeps k at (means.Place p) h = unless_keeps (PlaceOk k) p.read_only 26 at p h
+target_keeps k at (means.Place p) h = unless_keeps (PlaceOk k) p.read_only rule.NotChangeable at p h
 target_keeps k at m h = tt
 
 assigned_tree_ok : (k : Context) (b : Bool) (x : Valued) → ValuedOk k x → E k (assigned_tree b x)
@@ -76,7 +77,7 @@ assigns_keep : (k : Context) (map : Map) (at : Pos) (p : Place) (x : Valued) →
 assigns_keep k map at p x h g =
     let how = assignment_of map p x in
     let t = assigned_tree (is_array map p.of) x in
-    wants_keeps (AreOk k) (fits map p.of x) 31 at (stmt.Assign p.designator.inner how t at ∷ [])
+    wants_keeps (AreOk k) (fits map p.of x) rule.NotAssignable at (stmt.Assign p.designator.inner how t at ∷ [])
     (named_s k _ (Assign (designator_view p.designator.inner) how (expr_view t) at) (view_assign p.designator.inner how t at) (h.0, assigned_tree_ok k (is_array map p.of) x g), tt)
 
 pub assignment_keeps : (k : Context) (u : Around) → Stands k u → (n : Named) (at : Pos) (x : Phrase) → NamedOk k n → PhraseOk k x → Keeps (AreOk k) (assignment u n at x)
@@ -111,7 +112,7 @@ call_keeps k n g u s = then_keeps (MeantOk k) (AreOk k) (meant_by AsStatement n 
 -- ---- conditions and branches
 
 condition_keeps : (k : Context) (u : Around) → Stands k u → (x : Phrase) → PhraseOk k x → Keeps (E k) (condition u x)
-condition_keeps k u s x g = then_keeps (ValuedOk k) (E k) (x.value u) _ (g.0 u s) (λ v h. wants_keeps (E k) _ 32 x.start (tree v) (tree_ok k v h))
+condition_keeps k u s x g = then_keeps (ValuedOk k) (E k) (x.value u) _ (g.0 u s) (λ v h. wants_keeps (E k) _ rule.NotBoolean x.start (tree v) (tree_ok k v h))
 
 abbrev pub BranchOk : Context → TypedBranch → Type 0
 BranchOk k b = ExprThere k (branch_view b).test × StmtsThere k (branch_view b).body
@@ -190,18 +191,18 @@ case_keeps k u s at x cs o g h i =
     let c = cases u (selects_if (map_of u) j.node) [] cs in
     then_keeps (λ (p : Valued × (List TypedCase × Option (List TypedStmt))). ValuedOk k p.0 × (AllByRecursion (CaseOk k) p.1.0 × IfThere (AreOk k) p.1.1)) (AreOk k) (both j (both c (in_turn_if o u))) _
     (both_keep (ValuedOk k) (λ (p : List TypedCase × Option (List TypedStmt)). AllByRecursion (CaseOk k) p.0 × IfThere (AreOk k) p.1) j (both c (in_turn_if o u))
-    (then_keeps (ValuedOk k) (ValuedOk k) (x.value u) (case_value (map_of u) x.start) (g.0 u s) (λ v q. wants_keeps (ValuedOk k) _ 33 x.start v q))
+    (then_keeps (ValuedOk k) (ValuedOk k) (x.value u) (case_value (map_of u) x.start) (g.0 u s) (λ v q. wants_keeps (ValuedOk k) _ rule.UnfitCase x.start v q))
     (both_keep (AllByRecursion (CaseOk k)) (IfThere (AreOk k)) c (in_turn_if o u) (cases_keep k u s (selects_if (map_of u) j.node) [] cs h) (turn_if_keeps k u s o i)))
     (λ p q. (case_s k (tree p.0) p.1.0 p.1.1 at (tree_ok k p.0 q.0) q.1.0 q.1.1, tt))
 
 -- ---- EXIT and RETURN
 
 pub exit_keeps : (k : Context) (u : Around) (at : Pos) → Keeps (AreOk k) (rules.exit u at)
-exit_keeps k u at = wants_keeps (AreOk k) u.in_loop 35 at (stmt.Exit ∷ []) (named_s k stmt.Exit Exit view_exit tt, tt)
+exit_keeps k u at = wants_keeps (AreOk k) u.in_loop rule.MisplacedExit at (stmt.Exit ∷ []) (named_s k stmt.Exit Exit view_exit tt, tt)
 
 returned_keeps : (k : Context) (map : Map) (at : Pos) (o : Option TypeRef) (x : Valued) → ValuedOk k x → Keeps (AreOk k) (returned map at o x)
 returned_keeps k map at None x h = tt
-returned_keeps k map at (Some t) x h = wants_keeps (AreOk k) (fits map t x) 36 at (stmt.Return (Some (tree x)) ∷ []) (named_s k _ (Return (Some (expr_view (tree x)))) (view_return (Some (tree x))) (tree_ok k x h), tt)
+returned_keeps k map at (Some t) x h = wants_keeps (AreOk k) (fits map t x) rule.UnfitReturn at (stmt.Return (Some (tree x)) ∷ []) (named_s k _ (Return (Some (expr_view (tree x)))) (view_return (Some (tree x))) (tree_ok k x h), tt)
 
 none_keeps : (k : Context) (at : Pos) (o : Option TypeRef) → Keeps (AreOk k) (return_none at o)
 none_keeps k at None = (named_s k _ (Return None) (view_return None) tt, tt)

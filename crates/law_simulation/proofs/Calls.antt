@@ -2,6 +2,8 @@
 use Rattle.std.proofs.lemmas.Bool.Decides.{nat_tests}
 use Rattle.std.proofs.Common.{◌≡◌, ℕ, zero, suc, ◌+◌, ◌≤◌, List, [], ◌∷◌, ◌++◌, length, Option, Some, None, ℤ, refl, sym, ap, ◌∙◌, subst, arith}
 use Rattle.std.specs.Prelude.{pos, Bool, true, false, nat_le, nat_lt, ◌&&◌, slice_get}
+use Rattle.ob_trap.specs.declared.trap.Trap.{Trap}
+use Rattle.ob_trap.specs.declared.trap.Trap.TheVariants as trap
 use Rattle.ob_tree.specs.declared.pos.Pos.{Pos}
 use Rattle.ob_tree.specs.declared.names.QName.{QName}
 use Rattle.ob_tree.specs.declared.proc_ref.ProcRef.{ProcRef}
@@ -147,7 +149,7 @@ module _ (c : Setting) (given : ImageStands c) (all : AllIn c) where
             (machine.leaves c.img ps.m (number_of c.program (has_of c) c.img q).proc (fb c new) (act ∷ acts) ps.u ps.is [] w3 (has_it c new last) leave (omega (arith, fits, c.operands)))
             (subst (λ r. ResultFine c r s3.made None) (sym f) refl, after s3 w3 k)
         by_result (Some u) f last s3 w3 k =
-            follows_stop c w3 (traps c new 6 (pos 0) w3 last (rows.trap_traps c.img ps.u ps.m (number_of c.program (has_of c) c.img q).proc (fb c new) (end_stmts c.program p.body ps.entry.entry) w3 5 (pos 0) [] refl)) (stands_any c k)
+            follows_stop c w3 (traps c new trap.NoReturn (pos 0) w3 last (rows.trap_traps c.img ps.u ps.m (number_of c.program (has_of c) c.img q).proc (fb c new) (end_stmts c.program p.body ps.entry.entry) w3 trap.NoReturn (pos 0) [])) (stands_any c k)
 
         ends : (f : Flow) (s3 : State) (w3 : World) → FlowFine c new n (calling c.program c.heap n) t false s3.made f → Kept c (K c new) t os s3 w3 →
             Follows c (FlowTo c new n (calling c.program c.heap n) t (end_stmts c.program p.body ps.entry.entry) 0 f s3 w3) (back_to m pn fb0 pc acts rest) (back_kept p.result cs b os) (result_of_flow f p q s3)
@@ -180,7 +182,7 @@ module _ (c : Setting) (given : ImageStands c) (all : AllIn c) where
         many : rows_of.copy_words (length w.words) ps.entry.params ws ≡ Some (copies p s xs)
         many = copied_words c q p ps s w xs ws (stands_any c st) fit_here
 
-        same_stop : (kind : ℕ) (number : ℤ) (w2 : World) → Reach c (Go m pn fb0 acts pc ops w) (Over (image.Trapped kind number m (position_at u.positions pc)) w2) → Reach c (Go m pn fb0 acts pc ops w) (Over (stopped c (Trapped kind number unit at)) w2)
+        same_stop : (kind : Trap) (number : ℤ) (w2 : World) → Reach c (Go m pn fb0 acts pc ops w) (Over (image.Trapped kind number m (position_at u.positions pc)) w2) → Reach c (Go m pn fb0 acts pc ops w) (Over (stopped c (Trapped kind number unit at)) w2)
         same_stop kind number w2 h = subst (λ k. Reach c (Go m pn fb0 acts pc ops w) (Over (image.Trapped kind number k at) w2)) (sym named) (subst (λ z. Reach c (Go m pn fb0 acts pc ops w) (Over (image.Trapped kind number m z) w2)) place h)
 
         by : (z : ℕ) → s.turns ≡ z → Follows c (Go m pn fb0 acts pc ops w) (back_to m pn fb0 pc acts rest) (back_kept p.result cs b os) (spend_of z unit at (called (Some p) c.program c.heap n (calling c.program c.heap n) q xs unit at) s)
@@ -220,7 +222,7 @@ module _ (c : Setting) (given : ImageStands c) (all : AllIn c) where
             room false f =
                 let same = room_same q p ps s2 w2 xs ws acts less fit2 len depth2 ∙ f in
                 subst (λ z. Follows c (Go m pn fb0 acts pc ops w) (back_to m pn fb0 pc acts rest) (back_kept p.result cs b os) (if_room z unit at (λ s3. bind (execs p.body (around c.program c.heap n (calling c.program c.heap n) q.module) (begun c.program q p xs s3)) (λ f. result_of_flow f p q)) s2)) (sym f)
-                (follows_stop c w2 (same_stop 13 (pos 0) w2 (machine.is_full c.img m pn fb0 acts u inside r ps.entry ws (copies p s xs) rest w2 has enters same)) less)
+                (follows_stop c w2 (same_stop trap.StackFull (pos 0) w2 (machine.is_full c.img m pn fb0 acts u inside r ps.entry ws (copies p s xs) rest w2 has enters same)) less)
 
   -- all calls follow, whatever number bounds the turns
   pub call_follows : (n b : ℕ) → b ≤ n → CallsFollow c (calling c.program c.heap n) b

@@ -1,6 +1,8 @@
 -- The premises can be met for further forms: a module with a set, and a procedure with FOR downward, CASE without ELSE, INCL, operators on sets and ASSERT.
 use Rattle.std.proofs.Common.{◌≡◌, ℕ, List, [], ◌∷◌, ◌++◌, Option, Some, None, ℤ, refl, sym, ap, ◌∙◌, subst, arith, inl}
 use Rattle.std.specs.Prelude.{pos, negsuc, Bool, true, false, bytes_eq, if◌then◌else◌}
+use Rattle.ob_trap.specs.declared.trap.Trap.TheVariants as trap
+use Rattle.ob_trap.specs.Numbers.{trap_number}
 use Rattle.ob_tree.specs.declared.pos.Pos.{Pos}
 use Rattle.ob_tree.specs.declared.names.QName.{QName}
 use Rattle.ob_tree.specs.declared.ident.Mark.TheVariants as mark
@@ -146,7 +148,7 @@ code =
     ∷ with_a op.Local 1 ∷ plain op.Load ∷ int (pos 3) ∷ plain op.Le ∷ with_a op.JumpF 44 ∷ with_a op.Jump 45
     ∷ with_a op.Jump 54
     ∷ with_a op.Global 1 ∷ with_a op.Global 1 ∷ plain op.Load ∷ with_a op.Global 0 ∷ plain op.Load ∷ plain op.Bit ∷ plain op.Union ∷ plain op.Store ∷ with_a op.Jump 55
-    ∷ with_a op.Trap 4
+    ∷ with_a op.Trap (trap_number trap.NoCase)
     ∷ with_a op.Global 0 ∷ int (negsuc 0) ∷ with_a op.Inc 4 ∷ with_a op.Jump 7
     ∷ with_a op.Global 1 ∷ plain op.Load ∷ int (literal_word (literal.Set 2147483660)) ∷ plain op.Eq ∷ instr op.Assert (pos 1) (pos 0)
     ∷ with_a op.Global 0 ∷ plain op.Load ∷ int (pos 0) ∷ with_a op.Out 3 ∷ plain op.Ret ∷ []

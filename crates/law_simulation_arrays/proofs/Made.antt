@@ -2,6 +2,7 @@
 use Rattle.std.proofs.lemmas.Bool.Decides.{nat_tests}
 use Rattle.std.proofs.Common.{◌≡◌, ℕ, zero, suc, ◌*◌, ◌<◌, List, [], ◌∷◌, length, ℤ, refl, sym, subst, arith}
 use Rattle.std.specs.Prelude.{pos, negsuc, true}
+use Rattle.ob_trap.specs.declared.trap.Trap.TheVariants as trap
 use Rattle.ob_tree.specs.declared.pos.Pos.{Pos}
 use Rattle.ob_types.specs.declared.types.TypeRef.{TypeRef}
 use Rattle.ob_types.specs.declared.typed.Width.TheVariants as width
@@ -59,15 +60,15 @@ module _ (c : Setting) (a : Activation c) (n : ℕ) (call : Caller) (b : ℕ) wh
       there : are_there (length w.words) x 1 ≡ true
       there = (spot c (K c a) s w st.all p (subst (λ u. Scalar u) (sym pointer_is) tt) here_p.0).there
 
-      none : effect c a pc (pos 0 ∷ x ∷ []) w (code.with_a op.NewO (words u)) ≡ Traps 16 (pos 0) w
+      none : effect c a pc (pos 0 ∷ x ∷ []) w (code.with_a op.NewO (words u)) ≡ Traps trap.NoLength (pos 0) w
       none = rw there refl
 
-      below : (l : ℕ) → effect c a pc (negsuc l ∷ x ∷ []) w (code.with_a op.NewO (words u)) ≡ Traps 16 (pos 0) w
+      below : (l : ℕ) → effect c a pc (negsuc l ∷ x ∷ []) w (code.with_a op.NewO (words u)) ≡ Traps trap.NoLength (pos 0) w
       below l = rw there refl
 
       by : (z : ℤ) → is_in width.LongInt z ≡ true → Follows c (go c a pc (z ∷ x ∷ []) w) (λ u s w. go c a (suc pc) [] w) (λ u s w. Kp os s w) (make_open z t p (here_in c a n call b) at s)
-      by (pos zero) e = follows_stop c w (traps c a 16 (pos 0) w has none) (stands_any c st)
-      by (negsuc l) e = follows_stop c w (traps c a 16 (pos 0) w has (below l)) (stands_any c st)
+      by (pos zero) e = follows_stop c w (traps c a trap.NoLength (pos 0) w has none) (stands_any c st)
+      by (negsuc l) e = follows_stop c w (traps c a trap.NoLength (pos 0) w has (below l)) (stands_any c st)
       by (pos (suc l)) e =
           rw (positive l) (made_follows c a n call b (Opened (suc l) u) r p (suc l * words u) (code.with_a op.NewO (words u)) at pc (pos (suc l) ∷ x ∷ []) [] os s w (omega arith) has (tt, (long_is l e, ok)) (subst (λ v. Sub (ArrayForm (suc l) u) v) (sym is) (opened (suc l))) (subst (λ v. LengthFits v true) (sym is) refl) refl here_p
           (λ there. rows.new_o_is c.img a.u a.m a.p (fb c a) pc w x (words u) l [] there) st)

@@ -3,6 +3,7 @@ use Rattle.std.proofs.lemmas.Bool.{ltb-true}
 use Rattle.std.proofs.lemmas.Bool.Decides.{nat_tests}
 use Rattle.std.proofs.Common.{◌≡◌, ◌⊎◌, ℕ, suc, ◌+◌, ◌*◌, ◌≤◌, ◌<◌, List, [], ◌∷◌, ◌++◌, length, Some, None, ℤ, refl, sym, ap, ◌∙◌, subst, arith, inl, inr, ⊎_elim, append_assoc, length-append}
 use Rattle.std.specs.Prelude.{pos, negsuc, ◌+ℤ◌, ◌-ℤ◌, Bool, true, false, nat_lt, nat_eq, if◌then◌else◌}
+use Rattle.ob_trap.specs.declared.trap.Trap.TheVariants as trap
 use Rattle.ob_tree.specs.declared.pos.Pos.{Pos}
 use Rattle.ob_types.specs.declared.types.TypeRef.{TypeRef}
 use Rattle.ob_types.specs.declared.typed.Width.TheVariants as width
@@ -134,7 +135,7 @@ module _ (c : Setting) where
         Goal v = Follows c (go c a pc (word_of c.program (has_of c) c.img s.made v ∷ ops) w) (PlaceTo c a n call b (suc pc) ops) (OpensKept u os) (pointee v (here_in c a n call b) at s)
 
         nil : v ≡ Nil → Goal v
-        nil f = subst Goal (sym f) (follows_stop c w (traps c a 2 (pos 0) w has (rows.deref_traps c.img a.u a.m a.p (fb c a) pc w ops)) (stands_any c st))
+        nil f = subst Goal (sym f) (follows_stop c w (traps c a trap.Nil (pos 0) w has (rows.deref_traps c.img a.u a.m a.p (fb c a) pc w ops)) (stands_any c st))
 
         object : (k : ℕ) → v ≡ Object k → Opens u (At (OfObject k) []) s w → Goal v
         object k f o =
@@ -152,7 +153,7 @@ module _ (c : Setting) where
         Goal v = Follows c (go c a pc (word_of c.program (has_of c) c.img s.made v ∷ ops) w) (LongTo c a n call b (suc pc) ops) (OpensKept u os) (pointee v (here_in c a n call b) at s)
 
         nil : v ≡ Nil → Goal v
-        nil f = subst Goal (sym f) (follows_stop c w (traps c a 2 (pos 0) w has (rows.lenned_traps c.img a.u a.m a.p (fb c a) pc w ops)) (stands_any c st))
+        nil f = subst Goal (sym f) (follows_stop c w (traps c a trap.Nil (pos 0) w has (rows.lenned_traps c.img a.u a.m a.p (fb c a) pc w ops)) (stands_any c st))
 
         object : (k : ℕ) → v ≡ Object k → Opens u (At (OfObject k) []) s w → Goal v
         object k f o =
@@ -214,11 +215,11 @@ module _ (c : Setting) where
     open_element_follows : (z : ℤ) (p : Place) (l : ℕ) (t : Form) (at : Pos) (pc : ℕ) (ops : List ℤ) (os : List AnObject) (s : State) (w : World) → length ops + 1 ≤ 256 → code.HasAt (scope c a) pc (code.with_a op.IndexO (words t)) at → PlaceIn c.program (has_of c) c.img s.made (K c a) p → place_form c.program c.img s.made (K c a) p ≡ ArrayForm l t → Kp os s w →
         Follows c (go c a pc (z ∷ pos l ∷ pos (address c.program c.img s.made (K c a) p) ∷ ops) w) (PlaceTo c a n call b (suc pc) ops) (PlaceKept c a n call b t os) (element_place l p z (here_in c a n call b) at s)
     open_element_follows (negsuc i) p l t at pc ops os s w le has here_p e st =
-        follows_stop c w (traps c a 1 (pos 0) w has (rows.index_o_traps c.img a.u a.m a.p (fb c a) pc w (pos (address c.program c.img s.made (K c a) p)) (pos l) (negsuc i) (pos (words t)) ops refl)) (stands_any c st)
+        follows_stop c w (traps c a trap.IndexOutside (pos 0) w has (rows.index_o_traps c.img a.u a.m a.p (fb c a) pc w (pos (address c.program c.img s.made (K c a) p)) (pos l) (negsuc i) (pos (words t)) ops refl)) (stands_any c st)
     open_element_follows (pos i) p l t at pc ops os s w le has here_p e st = by (nat_lt i l) refl
       where
-        by : (z : Bool) → nat_lt i l ≡ z → Follows c (go c a pc (pos i ∷ pos l ∷ pos (address c.program c.img s.made (K c a) p) ∷ ops) w) (PlaceTo c a n call b (suc pc) ops) (PlaceKept c a n call b t os) (choose z (Gives (inside p (ElementStep i))) (λ s. Stops (Trapped 1 (pos 0) a.unit at) s) s)
-        by false f = follows_stop c w (traps c a 1 (pos 0) w has (rows.index_o_traps c.img a.u a.m a.p (fb c a) pc w (pos (address c.program c.img s.made (K c a) p)) (pos l) (pos i) (pos (words t)) ops f)) (stands_any c st)
+        by : (z : Bool) → nat_lt i l ≡ z → Follows c (go c a pc (pos i ∷ pos l ∷ pos (address c.program c.img s.made (K c a) p) ∷ ops) w) (PlaceTo c a n call b (suc pc) ops) (PlaceKept c a n call b t os) (choose z (Gives (inside p (ElementStep i))) (λ s. Stops (Trapped trap.IndexOutside (pos 0) a.unit at) s) s)
+        by false f = follows_stop c w (traps c a trap.IndexOutside (pos 0) w has (rows.index_o_traps c.img a.u a.m a.p (fb c a) pc w (pos (address c.program c.img s.made (K c a) p)) (pos l) (pos i) (pos (words t)) ops f)) (stands_any c st)
         by true f =
             let lt = ltb-true i l f in
             let in_it = inside_in c s.made (K c a) p (ElementStep i) here_p (subst (λ u. PathIn u (ElementStep i ∷ [])) (sym e) (lt, tt)) in

@@ -1,6 +1,7 @@
 -- The code of texts follows their meaning: their addresses and lengths, and their relations.
 use Rattle.std.proofs.Common.{◌≡◌, ℕ, suc, ◌+◌, ◌≤◌, List, [], ◌∷◌, ◌++◌, length, Option, Some, None, ℤ, refl, sym, ap, ◌∙◌, subst, arith, length-append}
 use Rattle.std.specs.Prelude.{pos, map, true, nat_lt}
+use Rattle.ob_trap.specs.declared.trap.Trap.TheVariants as trap
 use Rattle.ob_tree.specs.declared.pos.Pos.{Pos}
 use Rattle.ob_types.specs.declared.value.Value.TheVariants as literal
 use Rattle.ob_types.specs.declared.typed.Comparison.{Comparison}
@@ -143,16 +144,16 @@ module _ (c : Setting) (a : Activation c) (n : ℕ) (call : Caller) (b : ℕ) wh
       result = bind (text_of x (here_in c a n call b) at s) (λ v s. bind (text_of y (here_in c a n call b) at s) (λ u s. Gives (Truth (holds r (text_equal v u) (text_less v u))) s))
 
       second : List ℕ → Option (List ℕ) → Res Value
-      second v q = bind (give_or q (λ s. Stops (Trapped 15 (pos 0) a.unit at) s) s) (λ u s. Gives (Truth (holds r (text_equal v u) (text_less v u))) s)
+      second v q = bind (give_or q (λ s. Stops (Trapped trap.NoEnd (pos 0) a.unit at) s) s) (λ u s. Gives (Truth (holds r (text_equal v u) (text_less v u))) s)
 
       given : Option (List ℕ) → Res Value
-      given o = bind (give_or o (λ s. Stops (Trapped 15 (pos 0) a.unit at) s) s) (λ v s. bind (text_of y (here_in c a n call b) at s) (λ u s. Gives (Truth (holds r (text_equal v u) (text_less v u))) s))
+      given o = bind (give_or o (λ s. Stops (Trapped trap.NoEnd (pos 0) a.unit at) s) s) (λ v s. bind (text_of y (here_in c a n call b) at s) (λ u s. Gives (Truth (holds r (text_equal v u) (text_less v u))) s))
 
       ops4 : List ℤ
       ops4 = pos (length fy.cs) ∷ pos fy.start ∷ pos (length fx.cs) ∷ pos fx.start ∷ ops
 
-      trapped : effect c a pc ops4 w (code.with_a op.StrRel (comparison_number r)) ≡ Traps 15 (pos 0) w → (q : Res Value) → q ≡ Stops (Trapped 15 (pos 0) a.unit at) s → Follows c (go c a pc ops4 w) (ValueTo c a n call b (suc pc) ops) (ValueKept c a n call b boolean os) q
-      trapped e q f = subst (λ q. Follows c (go c a pc ops4 w) (ValueTo c a n call b (suc pc) ops) (ValueKept c a n call b boolean os) q) (sym f) (follows_stop c w (traps c a 15 (pos 0) w has e) (stands_any c st))
+      trapped : effect c a pc ops4 w (code.with_a op.StrRel (comparison_number r)) ≡ Traps trap.NoEnd (pos 0) w → (q : Res Value) → q ≡ Stops (Trapped trap.NoEnd (pos 0) a.unit at) s → Follows c (go c a pc ops4 w) (ValueTo c a n call b (suc pc) ops) (ValueKept c a n call b boolean os) q
+      trapped e q f = subst (λ q. Follows c (go c a pc ops4 w) (ValueTo c a n call b (suc pc) ops) (ValueKept c a n call b boolean os) q) (sym f) (follows_stop c w (traps c a trap.NoEnd (pos 0) w has e) (stands_any c st))
 
       row : (o q : Option (List ℕ)) → text_in x s.store ≡ o → text_in y s.store ≡ q → effect c a pc ops4 w (code.with_a op.StrRel (comparison_number r)) ≡ rows_of.on_both (found o) (found q) w (λ s t. Next (truth (related (comparison_number r) s t) ∷ ops) w)
       row o q e f = let i = text_found c a kx x s w fx ∙ ap found e in let j = text_found c a ky y s w fy ∙ ap found f in let k = number_below r in rw (k, i, j) refl

@@ -3,6 +3,7 @@ use Rattle.std.proofs.lemmas.List.{map-append, take-map, length-map, length-take
 use Rattle.std.proofs.Math.Nat.{mod-eq_of_lt}
 use Rattle.std.proofs.Common.{◌≡◌, ℕ, zero, suc, ◌+◌, ◌-◌, ◌≤◌, ◌<◌, List, [], ◌∷◌, ◌++◌, length, Option, Some, None, ℤ, refl, sym, ap, ◌∙◌, subst, arith, length-append}
 use Rattle.std.specs.Prelude.{pos, map, take, true, if◌then◌else◌}
+use Rattle.ob_trap.specs.declared.trap.Trap.TheVariants as trap
 use Rattle.ob_tree.specs.declared.pos.Pos.{Pos}
 use Rattle.ob_types.specs.declared.types.TypeRef.{TypeRef}
 use Rattle.ob_types.specs.declared.value.Value.TheVariants as literal
@@ -87,19 +88,19 @@ module _ (c : Setting) (a : Activation c) (n : ℕ) (call : Caller) (b : ℕ) wh
       written s = bind (text_of x (here_in c a n call b) at s) (λ text s. write text s)
 
       given : State → Option (List ℕ) → Res (Unit {0})
-      given s o = bind (give_or o (λ s. Stops (Trapped 15 (pos 0) a.unit at) s) s) (λ text s. write text s)
+      given s o = bind (give_or o (λ s. Stops (Trapped trap.NoEnd (pos 0) a.unit at) s) s) (λ text s. write text s)
 
       row : (o : Option (List ℕ)) → text_in x s.store ≡ o → effect c a pc ops2 w (code.with_a op.Out 2) ≡ rows_of.written_chars (found o) [] w
       row o e = ap (λ z. rows_of.written_chars z [] w) (text_found c a k x s w f ∙ ap found e)
 
       by : (t : ℕ) (o : Option (List ℕ)) → s.turns ≡ t → text_in x s.store ≡ o → Follows c (go c a pc ops2 w) (λ u s w. go c a (suc pc) [] w) (λ u s w. Kp os s w) (spend_of t a.unit at written s)
-      by zero None e g = follows_stop c w (spends c a w has (row None g ∙ ap (λ t. turn_or t w (λ v. Traps 15 (pos 0) v)) (st.all.turns ∙ e))) (stands_any c st)
+      by zero None e g = follows_stop c w (spends c a w has (row None g ∙ ap (λ t. turn_or t w (λ v. Traps trap.NoEnd (pos 0) v)) (st.all.turns ∙ e))) (stands_any c st)
       by zero (Some text) e g = follows_stop c w (spends c a w has (row (Some text) g ∙ ap (λ t. turn_or t w (λ v. Next [] (printed v (low_bytes (map pos text))))) (st.all.turns ∙ e))) (stands_any c st)
       by (suc t) None e g =
           let w2 = record w { turns = t } in
           let s2 = record s { turns = t } in
           subst (λ q. Follows c (go c a pc ops2 w) (λ u s w. go c a (suc pc) [] w) (λ u s w. Kp os s w) q) (sym (ap (given s2) g))
-          (follows_stop c w2 (traps c a 15 (pos 0) w2 has (row None g ∙ ap (λ t. turn_or t w (λ v. Traps 15 (pos 0) v)) (st.all.turns ∙ e))) (stands_any c (spent_keeps os s w t e st)))
+          (follows_stop c w2 (traps c a trap.NoEnd (pos 0) w2 has (row None g ∙ ap (λ t. turn_or t w (λ v. Traps trap.NoEnd (pos 0) v)) (st.all.turns ∙ e))) (stands_any c (spent_keeps os s w t e st)))
       by (suc t) (Some text) e g =
           let w2 = printed (record w { turns = t }) text in
           let all = st.all in
@@ -172,7 +173,7 @@ module _ (c : Setting) (a : Activation c) (n : ℕ) (call : Caller) (b : ℕ) wh
       v = value_at s.store p
 
       given : Option (List ℕ) → Res (Unit {0})
-      given o = bind (give_or o (λ s. Stops (Trapped 15 (pos 0) a.unit at) s) s) (λ text s. assign p (with_text (shortened (length_of (value_at s.store p)) text) (length_of (value_at s.store p)) (element_of (value_at s.store p))) s)
+      given o = bind (give_or o (λ s. Stops (Trapped trap.NoEnd (pos 0) a.unit at) s) s) (λ text s. assign p (with_text (shortened (length_of (value_at s.store p)) text) (length_of (value_at s.store p)) (element_of (value_at s.store p))) s)
 
       by_length : (m : ℕ) → place_form c.program c.img s.made (K c a) p ≡ ArrayForm m char → FormOk c.program (ArrayForm m char) → Follows c (go c a pc (Second (place_form c.program c.img s.made (K c a) p) ∷ q ∷ onto (SourceWords c a k x s) []) w) (λ u s w. go c a (suc pc) [] w) (λ u s w. Kp os s w) (copy_text x p (here_in c a n call b) at s)
       by_length zero form okf = absurd (let h = okf.0.0 in omega (arith, h))
@@ -187,7 +188,7 @@ module _ (c : Setting) (a : Activation c) (n : ℕ) (call : Caller) (b : ℕ) wh
           by : (o : Option (List ℕ)) → text_in x s.store ≡ o → Follows c (go c a pc ops4 w) (λ u s w. go c a (suc pc) [] w) (λ u s w. Kp os s w) (copy_text x p (here_in c a n call b) at s)
           by None e =
               subst (λ z. Follows c (go c a pc ops4 w) (λ u s w. go c a (suc pc) [] w) (λ u s w. Kp os s w) z) (sym (ap given e))
-              (follows_stop c w (traps c a 15 (pos 0) w has (rows.str_copy_traps c.img a.u a.m a.p (fb c a) pc w (pos f.start) (pos (length f.cs)) q m [] (text_found c a k x s w f ∙ ap found e))) (stands_any c st))
+              (follows_stop c w (traps c a trap.NoEnd (pos 0) w has (rows.str_copy_traps c.img a.u a.m a.p (fb c a) pc w (pos f.start) (pos (length f.cs)) q m [] (text_found c a k x s w f ∙ ap found e))) (stands_any c st))
           by (Some text) e =
               let small = take_chars m text (text_chars f.cs text f.small (sym f.text ∙ e)) in
               let short = take m text in

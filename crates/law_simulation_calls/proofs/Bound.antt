@@ -1,6 +1,7 @@
 -- Calls of bound procedures follow their meaning.
 use Rattle.std.proofs.Common.{◌≡◌, ⊎_elim, inr, ℕ, suc, ◌+◌, ◌≤◌, ◌<◌, List, [], ◌∷◌, ◌++◌, length, Option, Some, ℤ, refl, sym, ap, ◌∙◌, subst, arith}
 use Rattle.std.specs.Prelude.{pos, slice_get, if◌then◌else◌}
+use Rattle.ob_trap.specs.declared.trap.Trap.TheVariants as trap
 use Rattle.ob_tree.specs.declared.pos.Pos.{Pos}
 use Rattle.ob_tree.specs.declared.names.QName.{QName}
 use Rattle.ob_types.specs.declared.desc.Receiver.{Receiver}
@@ -125,10 +126,10 @@ module _ (c : Setting) (a : Activation c) (n : ℕ) (call : Caller) (b : ℕ) wh
           Goal : List Passed → Type 0
           Goal xs = Follows c (go c a pc (onto ws ops) w) (λ r s w. go c a (suc pc) (result_words c s.made r ++ ops) w) (λ r s w. ResultFine c p.result s.made r × Keeps c a n call b os s w) (call_bound receiver.Pointer f xs (here_in c a n call b) at s)
 
-          effect_is : (us : List ℤ) (v : ℤ) → ws ≡ v ∷ us → length ws ≡ suc (behind_receiver es) → effect c a pc (onto ws ops) w (instr op.CallP (pos (a.methods f)) (pos (behind_receiver es))) ≡ (if is_zero v then Traps 2 (pos 0) w else pointer_method c.img w v A (λ r. calls c.img r ws ops w))
+          effect_is : (us : List ℤ) (v : ℤ) → ws ≡ v ∷ us → length ws ≡ suc (behind_receiver es) → effect c a pc (onto ws ops) w (instr op.CallP (pos (a.methods f)) (pos (behind_receiver es))) ≡ (if is_zero v then Traps trap.Nil (pos 0) w else pointer_method c.img w v A (λ r. calls c.img r ws ops w))
           effect_is us v e len =
-              args_are (suc (behind_receiver es)) ws ops (λ args rest. on_receiver args (λ x. if is_zero x then Traps 2 (pos 0) w else pointer_method c.img w x A (λ r. calls c.img r args rest w))) len
-              ∙ ap (λ l. on_receiver l (λ x. if is_zero x then Traps 2 (pos 0) w else pointer_method c.img w x A (λ r. calls c.img r ws ops w))) e
+              args_are (suc (behind_receiver es)) ws ops (λ args rest. on_receiver args (λ x. if is_zero x then Traps trap.Nil (pos 0) w else pointer_method c.img w x A (λ r. calls c.img r args rest w))) len
+              ∙ ap (λ l. on_receiver l (λ x. if is_zero x then Traps trap.Nil (pos 0) w else pointer_method c.img w x A (λ r. calls c.img r ws ops w))) e
 
           by : (ps : List TypedParameter) (xs : List Passed) → p.parameters ≡ ps → ReceiverOk c.program receiver.Pointer t ps → ArgumentsFit c s.made (K c a) ps xs ws → length ws ≡ suc (behind_receiver es) → Goal xs
           by [] xs e rk fit len = absurd rk
@@ -142,7 +143,7 @@ module _ (c : Setting) (a : Activation c) (n : ℕ) (call : Caller) (b : ℕ) wh
               ws_is = fit.2 ∙ ap (λ l. l ++ fit.1) g.2
 
               nothing : g.0 ≡ Nil → Goal (x ∷ xs)
-              nothing z = subst (λ x. Goal (x ∷ xs)) (sym (g.1 ∙ ap ByValue z)) (follows_stop c w (traps c a 2 (pos 0) w has (effect_is fit.1 (pos 0) (ws_is ∙ ap (λ v. word_of c.program (has_of c) c.img s.made v ∷ fit.1) z) len)) (stands_any c st))
+              nothing z = subst (λ x. Goal (x ∷ xs)) (sym (g.1 ∙ ap ByValue z)) (follows_stop c w (traps c a trap.Nil (pos 0) w has (effect_is fit.1 (pos 0) (ws_is ∙ ap (λ v. word_of c.program (has_of c) c.img s.made v ∷ fit.1) z) len)) (stands_any c st))
 
               something : (m : ℕ) × (g.0 ≡ Object m) × (m < length s.made) × Sub (object_at s.made m) (form_in c.program rk.1.0) × LengthFits (form_in c.program rk.1.0) (has_length_at s.made m) → Goal (x ∷ xs)
               something z =
@@ -154,7 +155,7 @@ module _ (c : Setting) (a : Activation c) (n : ℕ) (call : Caller) (b : ℕ) wh
                   let there = object_tag c (K c a) s w st.all m r.name r.line r.fields z.2 r.is in
                   let is : effect c a pc (onto ws ops) w (instr op.CallP (pos (a.methods f)) (pos (behind_receiver es))) ≡ on_found (method_at (slice_get c.img.types (type_number c.img.types r.name)) A) (λ r. calls c.img r ws ops w) =
                   effect_is fit.1 (pos (heap_start c.program c.img + object_offset s.made m)) (ws_is ∙ ap (λ v. word_of c.program (has_of c) c.img s.made v ∷ fit.1) z.1) len
-                  ∙ ap (λ k. if is_zero (pos k) then Traps 2 (pos 0) w else pointer_method c.img w (pos k) A (λ r. calls c.img r ws ops w)) there.next
+                  ∙ ap (λ k. if is_zero (pos k) then Traps trap.Nil (pos 0) w else pointer_method c.img w (pos k) A (λ r. calls c.img r ws ops w)) there.next
                   ∙ ap (λ k. on_found (word_at w.words k) (λ g. on_found (tag_method c.img g A) (λ r. calls c.img r ws ops w))) (one_less (suc there.at))
                   ∙ ap (λ o. on_found o (λ g. on_found (tag_method c.img g A) (λ r. calls c.img r ws ops w))) there.word in
                   let first : (q1 : TypedParameter) → ReceiverTakes c.program receiver.Pointer r.name q1 → ArgumentFits c s.made (K c a) q1 x fit.0 = λ q1 k.

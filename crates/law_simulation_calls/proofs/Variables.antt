@@ -2,6 +2,7 @@
 use Rattle.std.proofs.Common.{◌≡◌, ⊎_elim, ℕ, suc, ◌+◌, ◌≤◌, ◌<◌, List, [], ◌∷◌, ◌++◌, length, Option, Some, None, ℤ, refl, sym, ap, ◌∙◌, subst, arith}
 use Rattle.std.specs.Prelude.{pos, if◌then◌else◌, ◌*◌, ◌/◌, ◌%◌}
 use Rattle.std.proofs.lemmas.Nat.{div-mul-add, div-add-mod'}
+use Rattle.ob_trap.specs.declared.trap.Trap.TheVariants as trap
 use Rattle.ob_tree.specs.declared.pos.Pos.{Pos}
 use Rattle.ob_tree.specs.declared.names.QName.{QName}
 use Rattle.ob_tree.specs.declared.proc_ref.ProcRef.{ProcRef}
@@ -96,11 +97,11 @@ module _ (c : Setting) (a : Activation c) (n : ℕ) (call : Caller) (b : ℕ) wh
         len : length ws ≡ operands_of es
         len = counted c s.made (K c a) a es (parameters_of sig.params) xs ws (actuals_ok es sig.params ok) fit
 
-        taken : (v : ℤ) → effect c a pc (onto ws (v ∷ ops)) w (code.with_a op.CallV (operands_of es)) ≡ (if is_zero v then Traps 2 (pos 0) w else on_found (proc_of_value v) (λ r. calls c.img r ws ops w))
-        taken v = args_are (operands_of es) ws (v ∷ ops) (λ args rest. on_one rest (λ v below. if is_zero v then Traps 2 (pos 0) w else on_found (proc_of_value v) (λ r. calls c.img r args below w))) len
+        taken : (v : ℤ) → effect c a pc (onto ws (v ∷ ops)) w (code.with_a op.CallV (operands_of es)) ≡ (if is_zero v then Traps trap.Nil (pos 0) w else on_found (proc_of_value v) (λ r. calls c.img r ws ops w))
+        taken v = args_are (operands_of es) ws (v ∷ ops) (λ args rest. on_one rest (λ v below. if is_zero v then Traps trap.Nil (pos 0) w else on_found (proc_of_value v) (λ r. calls c.img r args below w))) len
 
         nothing : Goal Nil
-        nothing = follows_stop c w (traps c a 2 (pos 0) w has (taken (pos 0))) (stands_any c st)
+        nothing = follows_stop c w (traps c a trap.Nil (pos 0) w has (taken (pos 0))) (stands_any c st)
 
         by : (r : Option TypeRef) → length ops + result_slots c r ≤ 256
         by None = omega (arith, le)
@@ -111,7 +112,7 @@ module _ (c : Setting) (a : Activation c) (n : ℕ) (call : Caller) (b : ℕ) wh
             let num = numbered (formals_in c.program sig) q may in
             let m = match sig q num.p may num.is in
             let r = number_of c.program (has_of c) c.img q in
-            let is : effect c a pc (onto ws (proc_value r ∷ ops)) w (code.with_a op.CallV (operands_of es)) ≡ calls c.img r ws ops w = taken (proc_value r) ∙ ap (λ z. if is_zero z then Traps 2 (pos 0) w else on_found (proc_of_value z) (λ r. calls c.img r ws ops w)) (value_is r) ∙ ap (λ o. on_found o (λ r. calls c.img r ws ops w)) (value_tells r num.below) in
+            let is : effect c a pc (onto ws (proc_value r ∷ ops)) w (code.with_a op.CallV (operands_of es)) ≡ calls c.img r ws ops w = taken (proc_value r) ∙ ap (λ z. if is_zero z then Traps trap.Nil (pos 0) w else on_found (proc_of_value z) (λ r. calls c.img r ws ops w)) (value_is r) ∙ ap (λ o. on_found o (λ r. calls c.img r ws ops w)) (value_tells r num.below) in
             let fits = all_alike c s.made (K c a) (parameters_of sig.params) num.p.parameters xs ws (match_alike s.made num.p.parameters sig.params m.1) fit in
             let depth : length (K c a) ≡ suc (length a.acts) = ap suc a.depth in
             follows_map c (calls_follow q num.p xs ws ops a.unit at a.m a.p (fb c a) pc a.u (code.with_a op.CallV (operands_of es)) (K c a) a.acts (onto ws (proc_value r ∷ ops)) os s w a.is a.named (has_it c a has.has) has.place is num.is fits (by num.p.result) depth st)

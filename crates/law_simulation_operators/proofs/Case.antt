@@ -2,6 +2,9 @@
 use Rattle.std.proofs.Common.{◌≡◌, ℕ, suc, ◌≤◌, ◌<◌, List, [], ◌∷◌, length, Some, ℤ, refl, sym, ap, ◌∙◌, subst, arith, ⊎_elim}
 use Rattle.std.proofs.lemmas.Bool.Decides.{nat_tests}
 use Rattle.std.specs.Prelude.{pos, Bool, true, false, ◌&&◌, ◌||◌, int_le, nat_lt, if◌then◌else◌}
+use Rattle.ob_trap.specs.declared.trap.Trap.{Trap}
+use Rattle.ob_trap.specs.Numbers.{trap_number}
+use Rattle.ob_trap.specs.declared.trap.Trap.TheVariants as traps_of
 use Rattle.ob_tree.specs.declared.pos.Pos.{Pos}
 use Rattle.ob_types.specs.declared.typed.Width.TheVariants as width
 use Rattle.ob_types.specs.declared.typed.Variable.TheVariants as variable
@@ -151,14 +154,14 @@ module _ (c : Setting) (a : Activation c) (n : ℕ) (call : Caller) (b : ℕ) wh
   -- ELSE, or the trap where there is none
 
   abbrev pub ElseOrTrapFollows : Otherwise → Type 0
-  ElseOrTrapFollows t = (kind : ℕ) (p : Pos) (l : Bool) (exit pc at : ℕ) (os : List AnObject) (s : State) (w : World) → nat_lt kind 16 ≡ true → need_else t ≤ 256 → end_else c.program t pc < length a.u.code → ExitLies c a n call b l (end_else c.program t pc) exit → code.ElseCode (scope c a) t (code.HasAt (scope c a) pc (code.with_a op.Trap (suc kind)) p) exit pc at → typed.ElseOk c.program (has_of c) a.unit (static_held c.program a.procedure) a.procedure.result t l → Kp os s w →
-      Follows c (go c a pc [] w) (FlowTo c a n call b (end_else c.program t pc) exit) (FlowKept c a n call b l os) (exec_else t (here_in c a n call b) (trap (suc kind) (here_in c a n call b) p) s)
+  ElseOrTrapFollows t = (kind : Trap) (p : Pos) (l : Bool) (exit pc at : ℕ) (os : List AnObject) (s : State) (w : World) → need_else t ≤ 256 → end_else c.program t pc < length a.u.code → ExitLies c a n call b l (end_else c.program t pc) exit → code.ElseCode (scope c a) t (code.HasAt (scope c a) pc (code.with_a op.Trap (trap_number kind)) p) exit pc at → typed.ElseOk c.program (has_of c) a.unit (static_held c.program a.procedure) a.procedure.result t l → Kp os s w →
+      Follows c (go c a pc [] w) (FlowTo c a n call b (end_else c.program t pc) exit) (FlowKept c a n call b l os) (exec_else t (here_in c a n call b) (trap kind (here_in c a n call b) p) s)
 
   pub no_else_case : ElseOrTrapFollows NoElse
-  no_else_case kind p l exit pc at os s w few le inside lies has ok st = follows_stop c w (traps c a (suc kind) (pos 0) w has (rows.trap_traps c.img a.u a.m a.p (fb c a) pc w kind (pos 0) [] few)) (stands_any c st)
+  no_else_case kind p l exit pc at os s w le inside lies has ok st = follows_stop c w (traps c a kind (pos 0) w has (rows.trap_traps c.img a.u a.m a.p (fb c a) pc w kind (pos 0) [])) (stands_any c st)
 
   pub else_case : (body : Stmts) → StmtsFollow c a n call b body → ElseOrTrapFollows (Else body)
-  else_case body ih kind p l exit pc at os s w few le inside lies has ok st = ih l exit pc at os s w le inside lies has ok st
+  else_case body ih kind p l exit pc at os s w le inside lies has ok st = ih l exit pc at os s w le inside lies has ok st
 
   -- THE STATEMENT
 
@@ -192,7 +195,7 @@ module _ (c : Setting) (a : Activation c) (n : ℕ) (call : Caller) (b : ℕ) wh
       hid = ok.1.0
 
       whole : (t : Form) → typed.ExprOk c.program (has_of c) a.unit (static_held c.program a.procedure) a.procedure.result e t → ((os : List AnObject) (v : Value) → F os t v → IsNumber os v) →
-          Follows c (go c a pc [] w) (FlowTo c a n call b end exit) (FlowKept c a n call b l os) (bind (value e (here_in c a n call b) s) (λ v s. bind (keep at (Integer (integer_of v)) s) (λ x. exec_cases cases (integer_of v) (here_in c a n call b) (exec_else otherwise (here_in c a n call b) (trap 4 (here_in c a n call b) at)))))
+          Follows c (go c a pc [] w) (FlowTo c a n call b end exit) (FlowKept c a n call b l os) (bind (value e (here_in c a n call b) s) (λ v s. bind (keep at (Integer (integer_of v)) s) (λ x. exec_cases cases (integer_of v) (here_in c a n call b) (exec_else otherwise (here_in c a n call b) (trap traps_of.NoCase (here_in c a n call b) at)))))
       whole t h number =
           let p = hidden_at c a n call at in
           let there = variable_of c a s w st.all (variable.Local (hidden at)) longint tt hid in
@@ -203,6 +206,6 @@ module _ (c : Setting) (a : Activation c) (n : ℕ) (call : Caller) (b : ℕ) wh
           (subst (λ m. Follows c (go c a p1 (W s1.made v ∷ pos m ∷ []) w1) (λ u s w. go c a (suc p1) [] w) (λ u s w. Kp os s w × (value_at s.store p ≡ Integer (integer_of v))) (keep at (Integer (integer_of v)) s1)) (address_same c s.made s1.made k1.1.objects (K c a) p there.0)
           (subst (λ z. Follows c (go c a p1 (z ∷ pos (address c.program c.img s1.made (K c a) p) ∷ []) w1) (λ u s w. go c a (suc p1) [] w) (λ u s w. Kp os s w × (value_at s.store p ≡ Integer (integer_of v))) (keep at (Integer (integer_of v)) s1)) (sym is.0)
           (keep_follows c a n call b at (Integer (integer_of v)) p1 os s1 w1 has.1.1.0 hid is.1 (since c a n call b st.objects k1.1)))) λ u s2 w2 k2.
-          ih_cases (integer_of v) at l end exit (suc p1) _ os s2 w2 (exec_else otherwise (here_in c a n call b) (trap 4 (here_in c a n call b) at)) (omega (arith, le)) (else_ends c.program otherwise p2) inside lies has.1.1.1.0 ok.1.1.0 hid k2.1
-          (λ s3 w3 k3. ih_else 3 at l exit p2 _ os s3 w3 refl (omega (arith, le)) inside lies has.1.1.1.1 ok.1.1.1 k3)
+          ih_cases (integer_of v) at l end exit (suc p1) _ os s2 w2 (exec_else otherwise (here_in c a n call b) (trap traps_of.NoCase (here_in c a n call b) at)) (omega (arith, le)) (else_ends c.program otherwise p2) inside lies has.1.1.1.0 ok.1.1.0 hid k2.1
+          (λ s3 w3 k3. ih_else traps_of.NoCase at l exit p2 _ os s3 w3 (omega (arith, le)) inside lies has.1.1.1.1 ok.1.1.1 k3)
           k2.0)

@@ -4,6 +4,7 @@ use Rattle.std.proofs.lemmas.Bool.Decides.{nat_tests, same_from_decides, Decides
 use Rattle.std.specs.Prelude.{pos, negsuc, ◌+ℤ◌, unsigned_abs, int_lt, nat_lt, nat_le, nat_eq, Bool, true, false, not, ◌&&◌, if◌then◌else◌}
 use Rattle.std.specs.Int.{int_rem_euclid}
 use Rattle.std.specs.Ordering.{int_eq}
+use Rattle.ob_trap.specs.declared.trap.Trap.TheVariants as trap
 use Rattle.ob_types.specs.declared.typed.Width.{Width}
 use Rattle.ob_types.specs.declared.typed.Width.TheVariants as width
 use Rattle.ob_types.specs.declared.typed.Comparison.{Comparison}
@@ -54,10 +55,10 @@ module _ (c : Setting) (os : List AnObject) (a : Activation c) (pc : ℕ) (w : W
   remainder_row : (v : Width) (x y : ℤ) → is_in v y ≡ true → Is2 (binary.Remainder v) (integer v) (Integer x) (Integer y)
   remainder_row v x y h = go (int_lt (pos 0) y) refl
     where
-      go : (b : Bool) → int_lt (pos 0) y ≡ b → RIs (if int_lt (pos 0) y then Next (int_rem_euclid x y ∷ ops) w else rows.Traps 7 (pos 0) w) (unless (int_lt (pos 0) y) 7 (Integer (remainder x (unsigned_abs y)))) (integer v)
-      go b e = subst (λ b. RIs (if b then Next (int_rem_euclid x y ∷ ops) w else rows.Traps 7 (pos 0) w) (unless b 7 (Integer (remainder x (unsigned_abs y)))) (integer v)) (sym e) (by b y e h)
+      go : (b : Bool) → int_lt (pos 0) y ≡ b → RIs (if int_lt (pos 0) y then Next (int_rem_euclid x y ∷ ops) w else rows.Traps trap.NoDivisor (pos 0) w) (unless (int_lt (pos 0) y) trap.NoDivisor (Integer (remainder x (unsigned_abs y)))) (integer v)
+      go b e = subst (λ b. RIs (if b then Next (int_rem_euclid x y ∷ ops) w else rows.Traps trap.NoDivisor (pos 0) w) (unless b trap.NoDivisor (Integer (remainder x (unsigned_abs y)))) (integer v)) (sym e) (by b y e h)
         where
-          by : (b : Bool) (y : ℤ) → int_lt (pos 0) y ≡ b → is_in v y ≡ true → RIs (if b then Next (int_rem_euclid x y ∷ ops) w else rows.Traps 7 (pos 0) w) (unless b 7 (Integer (remainder x (unsigned_abs y)))) (integer v)
+          by : (b : Bool) (y : ℤ) → int_lt (pos 0) y ≡ b → is_in v y ≡ true → RIs (if b then Next (int_rem_euclid x y ∷ ops) w else rows.Traps trap.NoDivisor (pos 0) w) (unless b trap.NoDivisor (Integer (remainder x (unsigned_abs y)))) (integer v)
           by false y e h = refl
           by true (pos k) e h = let up : 0 < k = grind (arith, nat_tests) in (ap (λ z. Next (z ∷ ops) w) (same_remainder x k up), is_integer c os v (Integer (remainder x k)) (remainder x k, remainder_in v x k up h, refl))
           by true (negsuc k) e h = absurd (cc)
@@ -65,12 +66,12 @@ module _ (c : Setting) (os : List AnObject) (a : Activation c) (pc : ℕ) (w : W
   ash_row : (x y : ℤ) → Is2 binary.Ash longint (Integer x) (Integer y)
   ash_row x y = go (is_in width.LongInt (shifted x y)) refl
     where
-      full : in_type 4 (rows.shifted x y) ops w ≡ (if is_in width.LongInt (shifted x y) then Next (shifted x y ∷ ops) w else rows.Traps 8 (pos 0) w)
-      full = ap (λ z. in_type 4 z ops w) (same_shift x y) ∙ ap (λ b. if b then Next (shifted x y ∷ ops) w else rows.Traps 8 (pos 0) w) (width_same width.LongInt (shifted x y))
+      full : in_type 4 (rows.shifted x y) ops w ≡ (if is_in width.LongInt (shifted x y) then Next (shifted x y ∷ ops) w else rows.Traps trap.Overflow (pos 0) w)
+      full = ap (λ z. in_type 4 z ops w) (same_shift x y) ∙ ap (λ b. if b then Next (shifted x y ∷ ops) w else rows.Traps trap.Overflow (pos 0) w) (width_same width.LongInt (shifted x y))
 
-      go : (b : Bool) → is_in width.LongInt (shifted x y) ≡ b → RIs (in_type 4 (rows.shifted x y) ops w) (unless b 8 (Integer (shifted x y))) longint
-      go true f = (full ∙ ap (λ b. if b then Next (shifted x y ∷ ops) w else rows.Traps 8 (pos 0) w) f, (shifted x y, f, refl))
-      go false f = full ∙ ap (λ b. if b then Next (shifted x y ∷ ops) w else rows.Traps 8 (pos 0) w) f
+      go : (b : Bool) → is_in width.LongInt (shifted x y) ≡ b → RIs (in_type 4 (rows.shifted x y) ops w) (unless b trap.Overflow (Integer (shifted x y))) longint
+      go true f = (full ∙ ap (λ b. if b then Next (shifted x y ∷ ops) w else rows.Traps trap.Overflow (pos 0) w) f, (shifted x y, f, refl))
+      go false f = full ∙ ap (λ b. if b then Next (shifted x y ∷ ops) w else rows.Traps trap.Overflow (pos 0) w) f
 
   odd_row : (x : ℤ) → Is1 unary.Odd boolean (Integer x)
   odd_row x = (ap (λ z. Next (z ∷ ops) w) (same_odd x), (is_odd x, refl))
@@ -81,10 +82,10 @@ module _ (c : Setting) (os : List AnObject) (a : Activation c) (pc : ℕ) (w : W
   chr_row : (x : ℤ) → Is1 unary.Chr char (Integer x)
   chr_row x = go (is_within x (pos 256)) refl
     where
-      go : (b : Bool) → is_within x (pos 256) ≡ b → RIs (if is_within x (pos 256) then Next (x ∷ ops) w else rows.Traps 8 (pos 0) w) (unless (is_positive (x +ℤ pos 1) && int_lt x (pos 256)) 8 (Character (unsigned_abs x))) char
-      go b e = subst (λ b. RIs (if is_within x (pos 256) then Next (x ∷ ops) w else rows.Traps 8 (pos 0) w) (unless b 8 (Character (unsigned_abs x))) char) (sym (is_code x ∙ e)) (subst (λ d. RIs (if d then Next (x ∷ ops) w else rows.Traps 8 (pos 0) w) (unless b 8 (Character (unsigned_abs x))) char) (sym e) (by b e))
+      go : (b : Bool) → is_within x (pos 256) ≡ b → RIs (if is_within x (pos 256) then Next (x ∷ ops) w else rows.Traps trap.Overflow (pos 0) w) (unless (is_positive (x +ℤ pos 1) && int_lt x (pos 256)) trap.Overflow (Character (unsigned_abs x))) char
+      go b e = subst (λ b. RIs (if is_within x (pos 256) then Next (x ∷ ops) w else rows.Traps trap.Overflow (pos 0) w) (unless b trap.Overflow (Character (unsigned_abs x))) char) (sym (is_code x ∙ e)) (subst (λ d. RIs (if d then Next (x ∷ ops) w else rows.Traps trap.Overflow (pos 0) w) (unless b trap.Overflow (Character (unsigned_abs x))) char) (sym e) (by b e))
         where
-          by : (b : Bool) → is_within x (pos 256) ≡ b → RIs (if b then Next (x ∷ ops) w else rows.Traps 8 (pos 0) w) (unless b 8 (Character (unsigned_abs x))) char
+          by : (b : Bool) → is_within x (pos 256) ≡ b → RIs (if b then Next (x ∷ ops) w else rows.Traps trap.Overflow (pos 0) w) (unless b trap.Overflow (Character (unsigned_abs x))) char
           by true e = let h = code_is x e in (ap (λ z. Next (z ∷ ops) w) h.0, (unsigned_abs x, h.1, refl))
           by false e = refl
 
@@ -113,10 +114,10 @@ module _ (c : Setting) (os : List AnObject) (a : Activation c) (pc : ℕ) (w : W
   on_element_row (negsuc n) k v t h = refl
   on_element_row (pos n) k v t h = go (nat_lt n 32) refl
     where
-      go : (b : Bool) → nat_lt n 32 ≡ b → RIs (if nat_lt n 32 then k n else rows.Traps 9 (pos 0) w) (with_element_in (if nat_lt n 32 then Some n else None) v) t
-      go b e = subst (λ b. RIs (if b then k n else rows.Traps 9 (pos 0) w) (with_element_in (if b then Some n else None) v) t) (sym e) (by b e)
+      go : (b : Bool) → nat_lt n 32 ≡ b → RIs (if nat_lt n 32 then k n else rows.Traps trap.NoElement (pos 0) w) (with_element_in (if nat_lt n 32 then Some n else None) v) t
+      go b e = subst (λ b. RIs (if b then k n else rows.Traps trap.NoElement (pos 0) w) (with_element_in (if b then Some n else None) v) t) (sym e) (by b e)
         where
-          by : (b : Bool) → nat_lt n 32 ≡ b → RIs (if b then k n else rows.Traps 9 (pos 0) w) (with_element_in (if b then Some n else None) v) t
+          by : (b : Bool) → nat_lt n 32 ≡ b → RIs (if b then k n else rows.Traps trap.NoElement (pos 0) w) (with_element_in (if b then Some n else None) v) t
           by true e = h n (grind (arith, nat_tests))
           by false e = refl
 
@@ -144,9 +145,9 @@ module _ (c : Setting) (os : List AnObject) (a : Activation c) (pc : ℕ) (w : W
       first (pos n) = go (nat_lt n 32) refl
         where
           go : (b : Bool) → nat_lt n 32 ≡ b → Pair (pos n)
-          go b e = subst (λ b. RIs (if b then on_element y w (λ j. Next (set_from n j ∷ ops) w) else rows.Traps 9 (pos 0) w) (with_elements_in (if b then Some n else None) (element_in y) (λ i j. SetOf (λ k. nat_le i k && nat_le k j))) set) (sym e) (by b e)
+          go b e = subst (λ b. RIs (if b then on_element y w (λ j. Next (set_from n j ∷ ops) w) else rows.Traps trap.NoElement (pos 0) w) (with_elements_in (if b then Some n else None) (element_in y) (λ i j. SetOf (λ k. nat_le i k && nat_le k j))) set) (sym e) (by b e)
             where
-              by : (b : Bool) → nat_lt n 32 ≡ b → RIs (if b then on_element y w (λ j. Next (set_from n j ∷ ops) w) else rows.Traps 9 (pos 0) w) (with_elements_in (if b then Some n else None) (element_in y) (λ i j. SetOf (λ k. nat_le i k && nat_le k j))) set
+              by : (b : Bool) → nat_lt n 32 ≡ b → RIs (if b then on_element y w (λ j. Next (set_from n j ∷ ops) w) else rows.Traps trap.NoElement (pos 0) w) (with_elements_in (if b then Some n else None) (element_in y) (λ i j. SetOf (λ k. nat_le i k && nat_le k j))) set
               by true e = second n (grind (arith, nat_tests))
               by false e = refl
 

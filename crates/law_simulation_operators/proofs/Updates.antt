@@ -3,6 +3,7 @@ use Rattle.std.proofs.Common.{◌≡◌, ℕ, suc, ◌≤◌, ◌<◌, List, [],
 use Rattle.std.proofs.lemmas.Bool.Decides.{nat_tests}
 use Rattle.std.specs.Prelude.{pos, negsuc, Bool, true, false, nat_lt, nat_eq, not, ◌&&◌, ◌||◌, if◌then◌else◌}
 use Rattle.std.specs.Int.{w32, int_bit_and, int_bit_or, int_bit_not}
+use Rattle.ob_trap.specs.declared.trap.Trap.TheVariants as trap
 use Rattle.ob_tree.specs.declared.pos.Pos.{Pos}
 use Rattle.ob_types.specs.declared.typed.Update.{Update}
 use Rattle.ob_types.specs.declared.typed.Update.TheVariants as update
@@ -63,8 +64,8 @@ module _ (c : Setting) (a : Activation c) (n : ℕ) (call : Caller) (b : ℕ) wh
         full : (z : ℤ) → effect c a pc (z ∷ q ∷ ops) m (code.update_code o) ≡ on_element z m change
         full z = row q z pc ops m ∙ ap (λ t. on_found t (λ s. on_element z m (λ i. on_found (stored m.words q (word s i)) (λ l. Next ops (with_memory m l))))) load
 
-        stops : (z : ℤ) → effect c a pc (z ∷ q ∷ ops) m (code.update_code o) ≡ rows_of.Traps 9 (pos 0) m → Follows c (go c a pc (z ∷ q ∷ ops) m) (λ u s m. go c a (suc pc) ops m) (λ u s m. Kp os s m) (bind (computed (with_element_in None (λ i. SetOf (new f i))) (here_in c a n call b) at s) (λ v s. assign p v s))
-        stops z h = follows_stop c m (traps c a 9 (pos 0) m has h) (stands_any c st)
+        stops : (z : ℤ) → effect c a pc (z ∷ q ∷ ops) m (code.update_code o) ≡ rows_of.Traps trap.NoElement (pos 0) m → Follows c (go c a pc (z ∷ q ∷ ops) m) (λ u s m. go c a (suc pc) ops m) (λ u s m. Kp os s m) (bind (computed (with_element_in None (λ i. SetOf (new f i))) (here_in c a n call b) at s) (λ v s. assign p v s))
+        stops z h = follows_stop c m (traps c a trap.NoElement (pos 0) m has h) (stands_any c st)
 
         by : (z : ℤ) → effect c a pc (z ∷ q ∷ ops) m (code.update_code o) ≡ on_element z m change → Follows c (go c a pc (z ∷ q ∷ ops) m) (λ u s m. go c a (suc pc) ops m) (λ u s m. Kp os s m) (bind (computed (with_element_in (element_in z) (λ i. SetOf (new f i))) (here_in c a n call b) at s) (λ v s. assign p v s))
         by (negsuc i) h = stops (negsuc i) h
@@ -74,14 +75,14 @@ module _ (c : Setting) (a : Activation c) (n : ℕ) (call : Caller) (b : ℕ) wh
             inside t g = subst (λ t. Follows c (go c a pc (pos i ∷ q ∷ ops) m) (λ u s m. go c a (suc pc) ops m) (λ u s m. Kp os s m) (bind (computed (with_element_in (if t then Some i else None) (λ i. SetOf (new f i))) (here_in c a n call b) at s) (λ v s. assign p v s))) (sym g) (at_last t g)
               where
                 at_last : (t : Bool) → nat_lt i 32 ≡ t → Follows c (go c a pc (pos i ∷ q ∷ ops) m) (λ u s m. go c a (suc pc) ops m) (λ u s m. Kp os s m) (bind (computed (with_element_in (if t then Some i else None) (λ i. SetOf (new f i))) (here_in c a n call b) at s) (λ v s. assign p v s))
-                at_last false g = stops (pos i) (h ∙ ap (λ t. if t then change i else rows_of.Traps 9 (pos 0) m) g)
+                at_last false g = stops (pos i) (h ∙ ap (λ t. if t then change i else rows_of.Traps trap.NoElement (pos 0) m) g)
                 at_last true g =
                     let v = SetOf (new f i) in
                     let put = x.store v (subst (λ u. Fine c.program (has_of c) s.made u v) (sym e) (new f i, refl)) in
                     let lt : i < 32 = grind (arith, nat_tests) in
                     let is_stored : stored m.words q (word (set_word f) i) ≡ Some put.0 = ap (stored m.words q) (same f i lt) ∙ put.1 in
                     follows_value c (with_memory m put.0)
-                    (goes c a ops (with_memory m put.0) has.has (h ∙ ap (λ t. if t then change i else rows_of.Traps 9 (pos 0) m) g ∙ ap (λ t. on_found t (λ l. Next ops (with_memory m l))) is_stored) le)
+                    (goes c a ops (with_memory m put.0) has.has (h ∙ ap (λ t. if t then change i else rows_of.Traps trap.NoElement (pos 0) m) g ∙ ap (λ t. on_found t (λ l. Next ops (with_memory m l))) is_stored) le)
                     (record { all = put.2; calls = st.calls; bound = st.bound; objects = st.objects })
 
     update_case : (d : Desig) (e : Expr) (at : Pos) → PlaceFollows c a n call b d → ExprFollows c a n call b e → (l : Bool) (exit pc k : ℕ) (os : List AnObject) (s : State) (m : World) → need_stmt (Updated o d e at) ≤ 256 → code.StmtCode (scope c a) (Updated o d e at) exit pc k → DesigOk c a n call b d → ExprOk c a n call b e longint → code.form_of (scope c a) d ≡ set → Kp os s m →

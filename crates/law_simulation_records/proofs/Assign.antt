@@ -3,6 +3,7 @@ use Rattle.std.proofs.Common.{◌≡◌, ℕ, suc, ◌+◌, ◌≤◌, List, [],
 use Rattle.std.proofs.lemmas.Bool.Decides.{nat_tests}
 use Rattle.std.specs.Prelude.{pos, Bool, true, false, nat_eq}
 use Rattle.std.specs.Ordering.{int_eq}
+use Rattle.ob_trap.specs.declared.trap.Trap.TheVariants as trap
 use Rattle.ob_tree.specs.declared.pos.Pos.{Pos}
 use Rattle.ob_tree.specs.declared.names.QName.{QName}
 use Rattle.ob_types.specs.declared.typed.Assigned.TheVariants as assigned
@@ -131,7 +132,7 @@ module _ (c : Setting) (a : Activation c) (n : ℕ) (call : Caller) (b : ℕ) wh
       let x = copy_stands c (K c a) s w st.all q line (fields_of (record_in c.program q)) p p2 e here_p exact k2 in
       let r : IsRecord c (form_at s p) = record { name = q; line = line; fields = fields_of (record_in c.program q); is = exact ∙ e; built = e } in
       let same : is_exactly (type_of (value_at s.store p)) q ≡ true = ap (λ o. is_exactly o q) (type_at c (K c a) s w st.all p here_p r) ∙ name_same q in
-      subst (λ z. Follows c (go c a pc before w) (PTo (suc pc) ops) (PKept os) (choose z (assign p (as_record c.program q (value_at s.store p2))) (λ s. Stops (Trapped 14 (pos 0) a.unit at) s) s)) (sym same)
+      subst (λ z. Follows c (go c a pc before w) (PTo (suc pc) ops) (PKept os) (choose z (assign p (as_record c.program q (value_at s.store p2))) (λ s. Stops (Trapped trap.OtherType (pos 0) a.unit at) s) s)) (sym same)
       (follows_value c (with_memory w x.0) (reach x.0 x.1) (record { all = x.2; calls = st.calls; bound = st.bound; objects = st.objects }))
 
   -- to one that may be of an extension
@@ -163,8 +164,8 @@ module _ (c : Setting) (a : Activation c) (n : ℕ) (call : Caller) (b : ℕ) wh
           (λ l g. goes c a ops (with_memory w l) has.has.has (rows.copy_rec_next c.img a.u a.m a.p (fb c a) pc w (pos (address_at s p)) (tag_at s p) (pos (address_at s p2)) (words (record_in c.program q)) has.number (type_number c.img.types q) l ops has.is g (tag_is ∙ f)) le)
       by false f =
           let x = copy_there c (K c a) s w st.all (record_in c.program q) (q ∷ line) fs p p2 e k k2 in
-          subst (λ z. Follows c (go c a pc (pos (address_at s p2) ∷ tag_at s p ∷ pos (address_at s p) ∷ ops) w) (PTo (suc pc) ops) (PKept os) (choose z (assign p (as_record c.program q (value_at s.store p2))) (λ s. Stops (Trapped 14 (pos 0) a.unit at) s) s)) (sym (type_is ∙ f))
-          (follows_stop c w (traps c a 14 (pos 0) w has.has (rows.copy_rec_traps c.img a.u a.m a.p (fb c a) pc w (pos (address_at s p)) (tag_at s p) (pos (address_at s p2)) (words (record_in c.program q)) has.number (type_number c.img.types q) x.0 ops has.is x.1 (tag_is ∙ f))) (stands_any c st))
+          subst (λ z. Follows c (go c a pc (pos (address_at s p2) ∷ tag_at s p ∷ pos (address_at s p) ∷ ops) w) (PTo (suc pc) ops) (PKept os) (choose z (assign p (as_record c.program q (value_at s.store p2))) (λ s. Stops (Trapped trap.OtherType (pos 0) a.unit at) s) s)) (sym (type_is ∙ f))
+          (follows_stop c w (traps c a trap.OtherType (pos 0) w has.has (rows.copy_rec_traps c.img a.u a.m a.p (fb c a) pc w (pos (address_at s p)) (tag_at s p) (pos (address_at s p2)) (words (record_in c.program q)) has.number (type_number c.img.types q) x.0 ops has.is x.1 (tag_is ∙ f))) (stands_any c st))
 
   -- ASSIGNMENTS
 

@@ -1,6 +1,7 @@
 -- Type tests and guards on pointers, and what is done with guarded pointers.
 use Rattle.std.proofs.Common.{◌≡◌, ℕ, suc, ◌+◌, ◌≤◌, ◌<◌, List, [], ◌∷◌, length, Some, None, ℤ, refl, sym, ap, ◌∙◌, subst, arith, inr, ⊎_elim}
 use Rattle.std.specs.Prelude.{pos, Bool, true, false}
+use Rattle.ob_trap.specs.declared.trap.Trap.TheVariants as trap
 use Rattle.ob_tree.specs.declared.pos.Pos.{Pos}
 use Rattle.ob_tree.specs.declared.names.QName.{QName}
 use Rattle.ob_types.specs.declared.types.TypeRef.{TypeRef}
@@ -251,14 +252,14 @@ module _ (c : Setting) (a : Activation c) (n : ℕ) (call : Caller) (b : ℕ) wh
       wide : Wide (PointerForm target) (form_at s p)
       wide = subst (λ u. Wide (PointerForm target) u) (sym own.is) (typed.pointers target own.own (λ x h. own.takes x (above x h)) (λ has h. own.fits has (no_length has)))
 
-      by : (z : Bool) → is_extension c.program (pointee_type s.store v) q ≡ z → Follows c (PlaceTo c a n call b pc ops p s w) (PlaceTo c a n call b (suc pc) ops) (HolderKept t os) (choose z (Gives p) (λ s. Stops (Trapped 3 (pos 0) a.unit at) s) s)
+      by : (z : Bool) → is_extension c.program (pointee_type s.store v) q ≡ z → Follows c (PlaceTo c a n call b pc ops p s w) (PlaceTo c a n call b (suc pc) ops) (HolderKept t os) (choose z (Gives p) (λ s. Stops (Trapped trap.GuardFails (pos 0) a.unit at) s) s)
       by true f =
           follows_value c w
           (goes c a _ w has.type.has (rows.guard_at_next c.img a.u a.m a.p (fb c a) pc w (pos (address_at s p)) (W s.made v) has.type.number (type_number c.img.types q) ops has.type.is load (tested true f)) (omega (arith, le)))
           (subst (λ u. Takes u s p × F s.made u v) (sym e) ((k.0.0.0, (tt, wide)), pointer_passed c stand (K c a) s w k.1.all v r target q k.0.1 ok is f), k.1)
       by false f =
           follows_stop c w
-          (traps c a 3 (pos 0) w (record { has = has.type.has; place = has.place }) (rows.guard_at_traps c.img a.u a.m a.p (fb c a) pc w (pos (address_at s p)) (W s.made v) has.type.number (type_number c.img.types q) ops has.type.is load (tested false f)))
+          (traps c a trap.GuardFails (pos 0) w (record { has = has.type.has; place = has.place }) (rows.guard_at_traps c.img a.u a.m a.p (fb c a) pc w (pos (address_at s p)) (W s.made v) has.type.number (type_number c.img.types q) ops has.type.is load (tested false f)))
           (stands_any c k.1)
 
   pub guard_pointer_case : (stand : BasesStand c) (d : Desig) (q : QName) (at : Pos) (t : TypeRef) → HolderFollows d → HolderFollows (Guard d guarded.Pointer q at t)

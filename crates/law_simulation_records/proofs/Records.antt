@@ -1,6 +1,7 @@
 -- Record parameters by VAR, their tags, and tests and guards on them.
 use Rattle.std.proofs.Common.{◌≡◌, ℕ, suc, ◌+◌, ◌≤◌, List, ◌∷◌, length, Some, None, ℤ, refl, sym, ap, ◌∙◌, subst, arith}
 use Rattle.std.specs.Prelude.{pos, Bool, true, false}
+use Rattle.ob_trap.specs.declared.trap.Trap.TheVariants as trap
 use Rattle.ob_tree.specs.declared.pos.Pos.{Pos}
 use Rattle.ob_tree.specs.declared.names.QName.{QName}
 use Rattle.ob_types.specs.declared.types.TypeRef.{TypeRef}
@@ -145,14 +146,14 @@ module _ (c : Setting) (a : Activation c) (n : ℕ) (call : Caller) (b : ℕ) wh
       tested : (z : Bool) → is_extension c.program (type_of (value_at s.store p)) q ≡ z → tag_passes c.img.types (tag_of_place s p) (type_number c.img.types q) ≡ Some z
       tested z f = tag_test c stand (K c a) s w k.1.all p u q k.0 ok ∙ ap Some f
 
-      by : (z : Bool) → is_extension c.program (type_of (value_at s.store p)) q ≡ z → Follows c (go c a pc (tag_of_place s p ∷ rest p s) w) (λ p s w. go c a (suc pc) (tag_of_place s p ∷ rest p s) w) (PKept t os) (choose z (Gives p) (λ s. Stops (Trapped 3 (pos 0) a.unit at) s) s)
+      by : (z : Bool) → is_extension c.program (type_of (value_at s.store p)) q ≡ z → Follows c (go c a pc (tag_of_place s p ∷ rest p s) w) (λ p s w. go c a (suc pc) (tag_of_place s p ∷ rest p s) w) (PKept t os) (choose z (Gives p) (λ s. Stops (Trapped trap.GuardFails (pos 0) a.unit at) s) s)
       by true f =
           follows_value c w
           (goes c a _ w has.type.has (rows.guard_r_next c.img a.u a.m a.p (fb c a) pc w (tag_of_place s p) has.type.number (type_number c.img.types q) (rest p s) has.type.is (tested true f)) (omega (arith, le)))
           (subst (λ u. PlaceOf c.program (has_of c) c.img s.made (K c a) u p) (sym e) (tag_passed c stand (K c a) s w k.1.all p u q k.0 ok f), k.1)
       by false f =
           follows_stop c w
-          (traps c a 3 (pos 0) w (record { has = has.type.has; place = has.place }) (rows.guard_r_traps c.img a.u a.m a.p (fb c a) pc w (tag_of_place s p) has.type.number (type_number c.img.types q) (rest p s) has.type.is (tested false f)))
+          (traps c a trap.GuardFails (pos 0) w (record { has = has.type.has; place = has.place }) (rows.guard_r_traps c.img a.u a.m a.p (fb c a) pc w (tag_of_place s p) has.type.number (type_number c.img.types q) (rest p s) has.type.is (tested false f)))
           (stands_any c k.1)
 
   -- what is tested or guarded is a record

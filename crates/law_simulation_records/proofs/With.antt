@@ -1,6 +1,7 @@
 -- The code of WITH follows its meaning.
 use Rattle.std.proofs.Common.{ℕ, suc, [], refl, arith}
 use Rattle.std.specs.Prelude.{pos}
+use Rattle.ob_trap.specs.declared.trap.Trap.TheVariants as trap
 use Rattle.ob_tree.specs.declared.pos.Pos.{Pos}
 use Rattle.ob_types.specs.TypedSyntax.{With, Stmts, Branches, NoElse, Else}
 use Rattle.ob_instr.proofs.Goes as rows
@@ -23,5 +24,5 @@ module _ (c : Setting) (a : Activation c) (n : ℕ) (call : Caller) (b : ℕ) wh
   pub with_case : (branches : Branches) (at : Pos) → BranchesFollow c a n call b branches → StmtFollows c a n call b (With branches NoElse at)
   with_case branches at ih l exit pc k os s w le inside lies has ok st =
       let p1 = end_branches c.program branches pc in
-      ih l (suc p1) exit pc k os s w (stop (Trapped 5 (pos 0) a.unit at)) (omega (arith, le)) (omega arith) inside lies has.0 ok.0
-      (λ s1 w1 st1. follows_stop c w1 (traps c a 5 (pos 0) w1 has.1 (rows.trap_traps c.img a.u a.m a.p (fb c a) p1 w1 4 (pos 0) [] refl)) (stands_any c st1)) st
+      ih l (suc p1) exit pc k os s w (stop (Trapped trap.NoMatch (pos 0) a.unit at)) (omega (arith, le)) (omega arith) inside lies has.0 ok.0
+      (λ s1 w1 st1. follows_stop c w1 (traps c a trap.NoMatch (pos 0) w1 has.1 (rows.trap_traps c.img a.u a.m a.p (fb c a) p1 w1 trap.NoMatch (pos 0) [])) (stands_any c st1)) st

@@ -2,6 +2,7 @@
 use Rattle.std.proofs.Common.{◌≡◌, ℕ, suc, ◌+◌, ◌≤◌, List, ◌++◌, length, ℤ, sym, ap, ◌∙◌, subst, arith, length-append}
 use Rattle.std.proofs.lemmas.Bool.Decides.{nat_tests}
 use Rattle.std.specs.Prelude.{pos, true}
+use Rattle.ob_trap.specs.declared.trap.Trap.{Trap}
 use Rattle.ob_tree.specs.declared.pos.Pos.{Pos}
 use Rattle.ob_instr.specs.declared.instr.Instr.{Instr}
 use Rattle.ob_instr.specs.Image as image
@@ -74,7 +75,7 @@ module _ (c : Setting) where
     pub jumps : {pc : ℕ} {ops : List ℤ} {w : World} {i : Instr} (at : ℕ) (ops2 : List ℤ) (w2 : World) → code.Has (scope c a) pc i → effect pc ops w i ≡ Goto at ops2 w2 → length ops2 ≤ 256 → Reach c (go c a pc ops w) (go c a at ops2 w2)
     jumps {pc} {ops} {w} {i} at ops2 w2 h e le = machine.jumps c.img a.m a.p (fb c a) a.acts a.u a.is at ops2 w2 (has_it h) e (omega (arith, le, c.operands))
 
-    pub traps : {pc : ℕ} {ops : List ℤ} {w : World} {i : Instr} {at : Pos} (kind : ℕ) (number : ℤ) (w2 : World) → code.HasAt (scope c a) pc i at → effect pc ops w i ≡ Traps kind number w2 → Reach c (go c a pc ops w) (Over (stopped c (Trapped kind number a.unit at)) w2)
+    pub traps : {pc : ℕ} {ops : List ℤ} {w : World} {i : Instr} {at : Pos} (kind : Trap) (number : ℤ) (w2 : World) → code.HasAt (scope c a) pc i at → effect pc ops w i ≡ Traps kind number w2 → Reach c (go c a pc ops w) (Over (stopped c (Trapped kind number a.unit at)) w2)
     traps {pc} {ops} {w} {i} {at} kind number w2 h e =
         subst (λ m. Reach c (go c a pc ops w) (Over (image.Trapped kind number m at) w2)) (sym a.named)
         (subst (λ p. Reach c (go c a pc ops w) (Over (image.Trapped kind number a.m p) w2)) (place_of ops w h (subst Stopped (sym e) tt)) (machine.traps c.img a.m a.p (fb c a) a.acts a.u a.is kind number w2 (has_it h.has) e))

@@ -2,6 +2,7 @@
 use Rattle.std.proofs.Common.{◌≡◌, ℕ, zero, suc, ◌≤◌, List, [], ◌∷◌, ◌++◌, length, Option, Some, None, ℤ, refl, sym, ap, ◌∙◌, subst, arith}
 use Rattle.std.proofs.Math.Nat.{mod-eq_of_lt}
 use Rattle.std.specs.Prelude.{pos, negsuc, ◌+ℤ◌, ◌-ℤ◌, Bool, true, false}
+use Rattle.ob_trap.specs.declared.trap.Trap.TheVariants as trap
 use Rattle.ob_tree.specs.declared.pos.Pos.{Pos}
 use Rattle.ob_types.specs.declared.types.Basic.{Basic}
 use Rattle.ob_types.specs.declared.types.Basic.TheVariants as basic
@@ -92,13 +93,13 @@ module _ (c : Setting) (a : Activation c) (n : ℕ) (call : Caller) (b : ℕ) wh
       load : word_at m.words (pos (address c.program c.img s.made (K c a) p)) ≡ Some z
       load = x.load ∙ ap (λ v. Some (word_of c.program (has_of c) c.img s.made v)) is
 
-      by : (t : Bool) → is_in w (z +ℤ d) ≡ t → Follows c (go c a pc (d ∷ pos (address c.program c.img s.made (K c a) p) ∷ ops) m) (λ u s m. go c a (suc pc) ops m) (λ u s m. Kp os s m) (bind (computed (unless t 8 (Integer (z +ℤ d))) (here_in c a n call b) at s) (λ v s. assign p v s))
+      by : (t : Bool) → is_in w (z +ℤ d) ≡ t → Follows c (go c a pc (d ∷ pos (address c.program c.img s.made (K c a) p) ∷ ops) m) (λ u s m. go c a (suc pc) ops m) (λ u s m. Kp os s m) (bind (computed (unless t trap.Overflow (Integer (z +ℤ d))) (here_in c a n call b) at s) (λ v s. assign p v s))
       by true f =
           let new = x.store (Integer (z +ℤ d)) (subst (λ u. Fine c.program (has_of c) s.made u (Integer (z +ℤ d))) (sym e) (is_integer c s.made w (Integer (z +ℤ d)) (z +ℤ d, f, refl))) in
           follows_value c (with_memory m new.0)
           (goes c a ops (with_memory m new.0) has.has (rows.inc_next c.img a.u a.m a.p (fb c a) pc m (bytes w) (pos (address c.program c.img s.made (K c a) p)) d z new.0 ops (is_width w) load (width_same w (z +ℤ d) ∙ f) new.1) le)
           (record { all = new.2; calls = st.calls; bound = st.bound; objects = st.objects })
-      by false f = follows_stop c m (traps c a 8 (pos 0) m has (rows.inc_traps c.img a.u a.m a.p (fb c a) pc m (bytes w) (pos (address c.program c.img s.made (K c a) p)) d z ops (is_width w) load (width_same w (z +ℤ d) ∙ f))) (stands_any c st)
+      by false f = follows_stop c m (traps c a trap.Overflow (pos 0) m has (rows.inc_traps c.img a.u a.m a.p (fb c a) pc m (bytes w) (pos (address c.program c.img s.made (K c a) p)) d z ops (is_width w) load (width_same w (z +ℤ d) ∙ f))) (stands_any c st)
 
   pub inc_case : (w : Width) (d : Desig) (e : Expr) (at : Pos) → PlaceFollows c a n call b d → ExprFollows c a n call b e → StmtFollows c a n call b (Updated (update.Inc w) d e at)
   inc_case w d e at ih_d ih_e l exit pc k os s m le inside lies has ok st =
@@ -131,13 +132,13 @@ module _ (c : Setting) (a : Activation c) (n : ℕ) (call : Caller) (b : ℕ) wh
       load : word_at m.words (pos (address c.program c.img s.made (K c a) p)) ≡ Some z
       load = x.load ∙ ap (λ v. Some (word_of c.program (has_of c) c.img s.made v)) is
 
-      by : (t : Bool) → is_in w (z -ℤ d) ≡ t → Follows c (go c a pc (d ∷ pos (address c.program c.img s.made (K c a) p) ∷ ops) m) (λ u s m. go c a (suc pc) ops m) (λ u s m. Kp os s m) (bind (computed (unless t 8 (Integer (z -ℤ d))) (here_in c a n call b) at s) (λ v s. assign p v s))
+      by : (t : Bool) → is_in w (z -ℤ d) ≡ t → Follows c (go c a pc (d ∷ pos (address c.program c.img s.made (K c a) p) ∷ ops) m) (λ u s m. go c a (suc pc) ops m) (λ u s m. Kp os s m) (bind (computed (unless t trap.Overflow (Integer (z -ℤ d))) (here_in c a n call b) at s) (λ v s. assign p v s))
       by true f =
           let new = x.store (Integer (z -ℤ d)) (subst (λ u. Fine c.program (has_of c) s.made u (Integer (z -ℤ d))) (sym e) (is_integer c s.made w (Integer (z -ℤ d)) (z -ℤ d, f, refl))) in
           follows_value c (with_memory m new.0)
           (goes c a ops (with_memory m new.0) has.has (rows.dec_next c.img a.u a.m a.p (fb c a) pc m (bytes w) (pos (address c.program c.img s.made (K c a) p)) d z new.0 ops (is_width w) load (width_same w (z -ℤ d) ∙ f) new.1) le)
           (record { all = new.2; calls = st.calls; bound = st.bound; objects = st.objects })
-      by false f = follows_stop c m (traps c a 8 (pos 0) m has (rows.dec_traps c.img a.u a.m a.p (fb c a) pc m (bytes w) (pos (address c.program c.img s.made (K c a) p)) d z ops (is_width w) load (width_same w (z -ℤ d) ∙ f))) (stands_any c st)
+      by false f = follows_stop c m (traps c a trap.Overflow (pos 0) m has (rows.dec_traps c.img a.u a.m a.p (fb c a) pc m (bytes w) (pos (address c.program c.img s.made (K c a) p)) d z ops (is_width w) load (width_same w (z -ℤ d) ∙ f))) (stands_any c st)
 
   pub dec_case : (w : Width) (d : Desig) (e : Expr) (at : Pos) → PlaceFollows c a n call b d → ExprFollows c a n call b e → StmtFollows c a n call b (Updated (update.Dec w) d e at)
   dec_case w d e at ih_d ih_e l exit pc k os s m le inside lies has ok st =

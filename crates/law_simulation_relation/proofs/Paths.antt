@@ -2,6 +2,7 @@
 use Rattle.std.proofs.lemmas.Bool.{ltb-true}
 use Rattle.std.proofs.Common.{◌≡◌, ℕ, suc, ◌+◌, ◌*◌, ◌≤◌, List, [], ◌∷◌, ◌++◌, length, Some, ℤ, refl, sym, ap, ◌∙◌, subst, arith}
 use Rattle.std.specs.Prelude.{pos, negsuc, Bool, true, false, nat_lt, ◌&&◌, bytes_eq, if◌then◌else◌}
+use Rattle.ob_trap.specs.declared.trap.Trap.TheVariants as trap
 use Rattle.ob_tree.specs.declared.pos.Pos.{Pos}
 use Rattle.ob_tree.specs.declared.names.QName.{QName}
 use Rattle.ob_types.specs.declared.types.TypeRef.{TypeRef}
@@ -132,11 +133,11 @@ module _ (c : Setting) (a : Activation c) (n : ℕ) (call : Caller) (b : ℕ) wh
   element_follows : (z : ℤ) (p : Place) (l : ℕ) (t : Form) (at : Pos) (pc : ℕ) (ops : List ℤ) (os : List AnObject) (s : State) (w : World) → length ops + 1 ≤ 256 → code.HasAt (scope c a) pc (code.instr op.Index (pos l) (pos (words t))) at → PlaceIn c.program (has_of c) c.img s.made (K c a) p → place_form c.program c.img s.made (K c a) p ≡ ArrayForm l t → Kp os s w →
       Follows c (go c a pc (z ∷ pos (address c.program c.img s.made (K c a) p) ∷ ops) w) (PlaceTo c a n call b (suc pc) ops) (PlaceKept c a n call b t os) (element_place l p z (here_in c a n call b) at s)
   element_follows (negsuc i) p l t at pc ops os s w le has here_p e st =
-      follows_stop c w (traps c a 1 (pos 0) w has (rows.index_traps c.img a.u a.m a.p (fb c a) pc w (pos (address c.program c.img s.made (K c a) p)) (negsuc i) (pos l) (pos (words t)) ops refl)) (stands_any c st)
+      follows_stop c w (traps c a trap.IndexOutside (pos 0) w has (rows.index_traps c.img a.u a.m a.p (fb c a) pc w (pos (address c.program c.img s.made (K c a) p)) (negsuc i) (pos l) (pos (words t)) ops refl)) (stands_any c st)
   element_follows (pos i) p l t at pc ops os s w le has here_p e st = by (nat_lt i l) refl
     where
-      by : (z : Bool) → nat_lt i l ≡ z → Follows c (go c a pc (pos i ∷ pos (address c.program c.img s.made (K c a) p) ∷ ops) w) (PlaceTo c a n call b (suc pc) ops) (PlaceKept c a n call b t os) (choose z (Gives (inside p (ElementStep i))) (λ s. Stops (Trapped 1 (pos 0) a.unit at) s) s)
-      by false f = follows_stop c w (traps c a 1 (pos 0) w has (rows.index_traps c.img a.u a.m a.p (fb c a) pc w (pos (address c.program c.img s.made (K c a) p)) (pos i) (pos l) (pos (words t)) ops f)) (stands_any c st)
+      by : (z : Bool) → nat_lt i l ≡ z → Follows c (go c a pc (pos i ∷ pos (address c.program c.img s.made (K c a) p) ∷ ops) w) (PlaceTo c a n call b (suc pc) ops) (PlaceKept c a n call b t os) (choose z (Gives (inside p (ElementStep i))) (λ s. Stops (Trapped trap.IndexOutside (pos 0) a.unit at) s) s)
+      by false f = follows_stop c w (traps c a trap.IndexOutside (pos 0) w has (rows.index_traps c.img a.u a.m a.p (fb c a) pc w (pos (address c.program c.img s.made (K c a) p)) (pos i) (pos l) (pos (words t)) ops f)) (stands_any c st)
       by true f =
           let lt = ltb-true i l f in
           let in_it = inside_in c s.made (K c a) p (ElementStep i) here_p (subst (λ u. PathIn u (ElementStep i ∷ [])) (sym e) (lt, tt)) in

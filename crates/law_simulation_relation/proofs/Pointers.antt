@@ -2,6 +2,7 @@
 use Rattle.std.proofs.lemmas.Bool.Decides.{nat_tests}
 use Rattle.std.proofs.Common.{◌≡◌, ℕ, suc, ◌+◌, ◌≤◌, ◌<◌, List, [], ◌∷◌, length, Some, None, ℤ, refl, sym, ap, ◌∙◌, subst, arith, inr, ⊎_elim}
 use Rattle.std.specs.Prelude.{pos, replicate, Bool, true, false, nat_le, nat_lt, if◌then◌else◌}
+use Rattle.ob_trap.specs.declared.trap.Trap.TheVariants as trap
 use Rattle.ob_tree.specs.declared.pos.Pos.{Pos}
 use Rattle.ob_tree.specs.declared.names.QName.{QName}
 use Rattle.ob_types.specs.declared.types.TypeRef.{TypeRef}
@@ -50,7 +51,7 @@ module _ (c : Setting) (a : Activation c) (n : ℕ) (call : Caller) (b : ℕ) wh
       Goal v = Follows c (go c a pc (W s.made v ∷ ops) w) (PlaceTo c a n call b (suc pc) ops) (PlaceKept c a n call b t os) (pointee v (here_in c a n call b) at s)
 
       nil : v ≡ Nil → Goal v
-      nil f = subst Goal (sym f) (follows_stop c w (traps c a 2 (pos 0) w has (rows.deref_traps c.img a.u a.m a.p (fb c a) pc w ops)) (stands_any c st))
+      nil f = subst Goal (sym f) (follows_stop c w (traps c a trap.Nil (pos 0) w has (rows.deref_traps c.img a.u a.m a.p (fb c a) pc w ops)) (stands_any c st))
 
       object : (k : ℕ) → v ≡ Object k → k < length s.made → Sub (object_at s.made k) (form_in c.program r) → Goal v
       object k f lt sub =
@@ -88,12 +89,12 @@ module _ (c : Setting) (a : Activation c) (n : ℕ) (call : Caller) (b : ℕ) wh
       many : length (Ex c [] x) + size ≡ cost_of x
       many = let h = extra-length c [] x in let k = cost_is c [] x in omega (arith, h, k, words_are)
 
-      by : (z : Bool) → nat_le (costs_of (x ∷ s.made)) c.heap ≡ z → Follows c (go c a pc before w) (λ u s w. go c a (suc pc) ops w) (λ u s w. Kp os s w) (choose z (with_object x p) (λ s. Stops (Trapped 12 (pos 0) a.unit at) s) s)
+      by : (z : Bool) → nat_le (costs_of (x ∷ s.made)) c.heap ≡ z → Follows c (go c a pc before w) (λ u s w. go c a (suc pc) ops w) (λ u s w. Kp os s w) (choose z (with_object x p) (λ s. Stops (Trapped trap.HeapFull (pos 0) a.unit at) s) s)
       by false e =
           let long = whole_length c (K c a) s w st.all in
           let more : nat_lt (length w.words + 1) (w.heap + (length (Ex c [] x) + size)) ≡ true = let h = st.all.heap_next in grind (arith, nat_tests) in
           let none : heap_taken (record { words = w.words; next = w.heap }) (length (Ex c [] x) + size) ≡ None = ap (λ t. if t then None else Some (record { words = rows_words (length (Ex c [] x) + size); next = w.heap + (length (Ex c [] x) + size) })) more in
-          follows_stop c w (traps c a 12 (pos 0) w has (row there ∙ ap (λ h. rows_of.taken (pos (address c.program c.img s.made (K c a) p)) (Ex c [] x) h ops w) none)) (stands_any c st)
+          follows_stop c w (traps c a trap.HeapFull (pos 0) w has (row there ∙ ap (λ h. rows_of.taken (pos (address c.program c.img s.made (K c a) p)) (Ex c [] x) h ops w) none)) (stands_any c st)
       by true e =
           let few : costs_of (x ∷ s.made) ≤ c.heap = grind (arith, nat_tests) in
           let long = whole_length c (K c a) s w st.all in

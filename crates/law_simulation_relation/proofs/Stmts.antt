@@ -2,6 +2,7 @@
 use Rattle.std.proofs.Common.{◌≡◌, ℕ, zero, suc, ◌≤◌, ◌<◌, List, [], ◌∷◌, ◌++◌, length, length-append, Option, Some, None, ℤ, refl, sym, ap, ◌∙◌, subst, arith}
 use Rattle.std.proofs.lemmas.Bool.Decides.{nat_tests}
 use Rattle.std.specs.Prelude.{pos, Bool, true, false, nat_lt, nat_le}
+use Rattle.ob_trap.specs.declared.trap.Trap.TheVariants as trap
 use Rattle.ob_tree.specs.declared.pos.Pos.{Pos}
 use Rattle.ob_types.specs.declared.types.TypeRef.{TypeRef}
 use Rattle.ob_types.specs.declared.typed.Assigned.TheVariants as assigned
@@ -87,15 +88,15 @@ module _ (c : Setting) (a : Activation c) (n : ℕ) (call : Caller) where
     assert_case e number at ih l exit pc k os s w le inside lies has ok st =
         let p1 = end_expr c.program e pc in
         follows_bind c (ih boolean pc k [] os s w (omega (arith, le)) has.0 ok st) λ v s1 w1 k1.
-        by_truth c a n call b v s1.made p1 [] w1 (λ v. choose (truth_of v) (give Done) (stop (Trapped 10 number a.unit at)) s1) k1.0 (λ z. by z p1 s1 w1 has.1 k1.1)
+        by_truth c a n call b v s1.made p1 [] w1 (λ v. choose (truth_of v) (give Done) (stop (Trapped trap.AssertionFails number a.unit at)) s1) k1.0 (λ z. by z p1 s1 w1 has.1 k1.1)
       where
-        by : (z : Bool) (p1 : ℕ) (s1 : State) (w1 : World) → code.HasAt (scope c a) p1 (code.instr op.Assert number (pos 0)) at → Kp os s1 w1 → Follows c (go c a p1 (truth z ∷ []) w1) (FTo (suc p1) exit) (FKept l os) (choose z (give Done) (stop (Trapped 10 number a.unit at)) s1)
+        by : (z : Bool) (p1 : ℕ) (s1 : State) (w1 : World) → code.HasAt (scope c a) p1 (code.instr op.Assert number (pos 0)) at → Kp os s1 w1 → Follows c (go c a p1 (truth z ∷ []) w1) (FTo (suc p1) exit) (FKept l os) (choose z (give Done) (stop (Trapped trap.AssertionFails number a.unit at)) s1)
         by true p1 s1 w1 has st = follows_value c w1 (goes c a [] w1 has.has (rows.assert_next c.img a.u a.m a.p (fb c a) p1 w1 number (pos 1) [] refl) (omega arith)) (tt, st)
-        by false p1 s1 w1 has st = follows_stop c w1 (traps c a 10 number w1 has (rows.assert_traps c.img a.u a.m a.p (fb c a) p1 w1 number [])) (stands_any c st)
+        by false p1 s1 w1 has st = follows_stop c w1 (traps c a trap.AssertionFails number w1 has (rows.assert_traps c.img a.u a.m a.p (fb c a) p1 w1 number [])) (stands_any c st)
 
     pub halt_case : (number : ℤ) (at : Pos) → S (Halt number at)
     halt_case number at l exit pc k os s w le inside lies has ok st =
-        follows_stop c w (traps c a 11 number w has (rows.trap_traps c.img a.u a.m a.p (fb c a) pc w 10 number [] refl)) (stands_any c st)
+        follows_stop c w (traps c a trap.Halted number w has (rows.trap_traps c.img a.u a.m a.p (fb c a) pc w trap.Halted number [])) (stands_any c st)
 
     -- EXIT
 

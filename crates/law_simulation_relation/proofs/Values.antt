@@ -7,6 +7,7 @@ use Rattle.std.proofs.Math.Nat.{div-le_self}
 use Rattle.std.specs.Int.{int_div_euclid}
 use Rattle.std.specs.Ordering.{is_eq, int_eq}
 use Rattle.std.specs.Prelude.{cond}
+use Rattle.ob_trap.specs.declared.trap.Trap.TheVariants as trap
 use Rattle.ob_types.specs.declared.types.Basic.TheVariants as basic
 use Rattle.ob_types.specs.declared.typed.Width.{Width}
 use Rattle.ob_types.specs.declared.typed.Width.TheVariants as width
@@ -135,12 +136,12 @@ module _ (c : Setting) (os : List AnObject) where
       in_type_row : (v : Width) (z : ℤ) (e : Effect) → e ≡ in_type (bytes v) z ops w → RowIs e (integer_in v z) (integer v)
       in_type_row v z e h = go (is_in v z) refl
         where
-          full : e ≡ (if is_in v z then Next (z ∷ ops) w else rows.Traps 8 (pos 0) w)
-          full = h ∙ ap (λ b. if b then Next (z ∷ ops) w else rows.Traps 8 (pos 0) w) (width_same v z)
+          full : e ≡ (if is_in v z then Next (z ∷ ops) w else rows.Traps trap.Overflow (pos 0) w)
+          full = h ∙ ap (λ b. if b then Next (z ∷ ops) w else rows.Traps trap.Overflow (pos 0) w) (width_same v z)
 
-          go : (b : Bool) → is_in v z ≡ b → RowIs e (unless b 8 (Integer z)) (integer v)
-          go true f = (full ∙ ap (λ b. if b then Next (z ∷ ops) w else rows.Traps 8 (pos 0) w) f, is_integer v (Integer z) (z, f, refl))
-          go false f = full ∙ ap (λ b. if b then Next (z ∷ ops) w else rows.Traps 8 (pos 0) w) f
+          go : (b : Bool) → is_in v z ≡ b → RowIs e (unless b trap.Overflow (Integer z)) (integer v)
+          go true f = (full ∙ ap (λ b. if b then Next (z ∷ ops) w else rows.Traps trap.Overflow (pos 0) w) f, is_integer v (Integer z) (z, f, refl))
+          go false f = full ∙ ap (λ b. if b then Next (z ∷ ops) w else rows.Traps trap.Overflow (pos 0) w) f
 
       abbrev pub Row2 : Binary → Form → Value → Value → Type 0
       Row2 o t x y = RowIs (R (binary_code o) (N y ∷ N x ∷ ops)) (compute_both o x y) t
@@ -185,10 +186,10 @@ module _ (c : Setting) (os : List AnObject) where
       quotient_row : (v : Width) (x y : ℤ) → is_in v x ≡ true → Row2 (binary.Quotient v) (integer v) (Integer x) (Integer y)
       quotient_row v x y h = go (int_lt (pos 0) y) refl
         where
-          go : (b : Bool) → int_lt (pos 0) y ≡ b → RowIs (if int_lt (pos 0) y then Next (int_div_euclid x y ∷ ops) w else rows.Traps 7 (pos 0) w) (unless (int_lt (pos 0) y) 7 (Integer (quotient x (unsigned_abs y)))) (integer v)
-          go b e = subst (λ b. RowIs (if b then Next (int_div_euclid x y ∷ ops) w else rows.Traps 7 (pos 0) w) (unless b 7 (Integer (quotient x (unsigned_abs y)))) (integer v)) (sym e) (by b y e)
+          go : (b : Bool) → int_lt (pos 0) y ≡ b → RowIs (if int_lt (pos 0) y then Next (int_div_euclid x y ∷ ops) w else rows.Traps trap.NoDivisor (pos 0) w) (unless (int_lt (pos 0) y) trap.NoDivisor (Integer (quotient x (unsigned_abs y)))) (integer v)
+          go b e = subst (λ b. RowIs (if b then Next (int_div_euclid x y ∷ ops) w else rows.Traps trap.NoDivisor (pos 0) w) (unless b trap.NoDivisor (Integer (quotient x (unsigned_abs y)))) (integer v)) (sym e) (by b y e)
             where
-              by : (b : Bool) (y : ℤ) → int_lt (pos 0) y ≡ b → RowIs (if b then Next (int_div_euclid x y ∷ ops) w else rows.Traps 7 (pos 0) w) (unless b 7 (Integer (quotient x (unsigned_abs y)))) (integer v)
+              by : (b : Bool) (y : ℤ) → int_lt (pos 0) y ≡ b → RowIs (if b then Next (int_div_euclid x y ∷ ops) w else rows.Traps trap.NoDivisor (pos 0) w) (unless b trap.NoDivisor (Integer (quotient x (unsigned_abs y)))) (integer v)
               by false y e = refl
               by true (pos k) e = (ap (λ z. Next (z ∷ ops) w) (same_quotient x k), is_integer v (Integer (quotient x k)) (quotient x k, quotient_in v x k h, refl))
               by true (negsuc k) e = absurd (cc)

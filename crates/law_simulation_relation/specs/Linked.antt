@@ -1,6 +1,8 @@
 -- What an image has of each procedure of a program.
 use Rattle.std.specs.Prelude.{◌≡◌, ℕ, suc, ◌+◌, ◌≤◌, ◌<◌, List, [], ◌∷◌, ◌++◌, length, Option, Some, None, Bool, true}
 use Rattle.std.specs.Prelude.{map, false, slice_get}
+use Rattle.ob_trap.specs.declared.trap.Trap.TheVariants as trap
+use Rattle.ob_trap.specs.Numbers.{trap_number}
 use Rattle.ob_tree.specs.declared.names.QName.{QName}
 use Rattle.ob_types.specs.declared.types.TypeRef.{TypeRef}
 use Rattle.ob_types.specs.declared.typed.Passing.{Passing}
@@ -72,7 +74,7 @@ scope_of c u unit p methods = record { program = c.program; img = c.img; u = u; 
 
 abbrev pub LastCode : Scope → Procedure → ℕ → Option TypeRef → Type 0
 LastCode sc p pc None = code.Has sc pc (code.plain op.Ret)
-LastCode sc p pc (Some t) = code.HasAt sc pc (code.with_a op.Trap 6) p.at
+LastCode sc p pc (Some t) = code.HasAt sc pc (code.with_a op.Trap (trap_number trap.NoReturn)) p.at
 
 pub record ProcedureStands (c : Setting) (q : QName) (p : Procedure) : Type 0 where
   pub m : ℕ

@@ -1,6 +1,8 @@
 -- Where code stands in a module's instructions: the scheme, as what each tree's code is and where.
 use Rattle.std.specs.Prelude.{◌≡◌, ◌<◌, ℕ, suc, ◌+◌, List, [], ◌∷◌, ◌++◌, map, length, ℤ, pos, negsuc, Option, Some, None, Bool, true, false, bytes_eq, if◌then◌else◌, slice_get}
 use Rattle.std.specs.Int.{w32, cast_signed}
+use Rattle.ob_trap.specs.declared.trap.Trap.TheVariants as trap
+use Rattle.ob_trap.specs.Numbers.{trap_number}
 use Rattle.ob_tree.specs.declared.pos.Pos.{Pos}
 use Rattle.ob_tree.specs.declared.names.QName.{QName}
 use Rattle.ob_types.specs.declared.types.TypeRef.{TypeRef}
@@ -459,14 +461,14 @@ module _ (sc : Scope) where
     StmtCode (New d what p) exit pc at = PlaceCode d pc at × MadeCode what (end_place sc.program d pc) p
     StmtCode (NewOpenArray d t n p) exit pc at = PlaceCode d pc at × (ExprCode n (end_place sc.program d pc) (at + dt d) × HasAt (end_expr sc.program n (end_place sc.program d pc)) (with_a op.NewO (words (form_in sc.program t))) p)
     StmtCode (Assert e number p) exit pc at = ExprCode e pc at × HasAt (end_expr sc.program e pc) (instr op.Assert number (pos 0)) p
-    StmtCode (Halt number p) exit pc at = HasAt pc (instr op.Trap (pos 11) number) p
+    StmtCode (Halt number p) exit pc at = HasAt pc (instr op.Trap (pos (trap_number trap.Halted)) number) p
     StmtCode (If branches otherwise) exit pc at =
         let p1 = end_branches sc.program branches pc in
         BranchesCode branches (end_stmts sc.program otherwise p1) exit pc at × StmtsCode otherwise exit p1 (at + texts_of_branches (form_in sc.program) branches)
     StmtCode (Case e cases otherwise p) exit pc at =
         let p1 = end_expr sc.program e (suc pc) in
         let p2 = end_cases sc.program cases (suc p1) in
-        Has pc (with_a op.Local (hidden_slot p)) × (ExprCode e (suc pc) at × (Has p1 (plain op.Store) × (CasesCode cases p (end_else sc.program otherwise p2) exit (suc p1) (at + et e) × ElseCode otherwise (HasAt p2 (with_a op.Trap 4) p) exit p2 (at + et e + texts_of_cases (form_in sc.program) cases))))
+        Has pc (with_a op.Local (hidden_slot p)) × (ExprCode e (suc pc) at × (Has p1 (plain op.Store) × (CasesCode cases p (end_else sc.program otherwise p2) exit (suc p1) (at + et e) × ElseCode otherwise (HasAt p2 (with_a op.Trap (trap_number trap.NoCase)) p) exit p2 (at + et e + texts_of_cases (form_in sc.program) cases))))
     StmtCode (While e body p) exit pc at =
         let p1 = end_expr sc.program e pc in
         let p2 = end_stmts sc.program body (suc p1) in
@@ -496,7 +498,7 @@ module _ (sc : Scope) where
     StmtCode (Return e) exit pc at = OptionalCode e pc at
     StmtCode (With branches otherwise p) exit pc at =
         let p1 = end_branches sc.program branches pc in
-        BranchesCode branches (end_else sc.program otherwise p1) exit pc at × ElseCode otherwise (HasAt p1 (with_a op.Trap 5) p) exit p1 (at + texts_of_branches (form_in sc.program) branches)
+        BranchesCode branches (end_else sc.program otherwise p1) exit pc at × ElseCode otherwise (HasAt p1 (with_a op.Trap (trap_number trap.NoMatch)) p) exit p1 (at + texts_of_branches (form_in sc.program) branches)
 
     pub StmtsCode : Stmts → ℕ → ℕ → ℕ → Type 0
     StmtsCode Nothing exit pc at = Unit {0}
@@ -517,5 +519,5 @@ module _ (sc : Scope) where
         LabelsCode labels p pc p1 (suc p2) × (StmtsCode body exit p1 at × (Has p2 (with_a op.Jump end) × (Inside end × CasesCode rest p end exit (suc p2) (at + sst body))))
 
     pub ElseCode : Otherwise → Type 0 → ℕ → ℕ → ℕ → Type 0
-    ElseCode NoElse trap exit pc at = trap
-    ElseCode (Else body) trap exit pc at = StmtsCode body exit pc at
+    ElseCode NoElse trapping exit pc at = trapping
+    ElseCode (Else body) trapping exit pc at = StmtsCode body exit pc at

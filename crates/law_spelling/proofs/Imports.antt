@@ -10,6 +10,8 @@ use Rattle.std.proofs.lemmas.Map.Text.{is_eq-slice_cmp}
 use Rattle.ob_tree.specs.declared.pos.Pos.{Pos}
 use Rattle.ob_tree.specs.declared.ident.Ident.{Ident}
 use Rattle.ob_tree.specs.declared.ident.Import.{Import}
+use Rattle.ob_rules.specs.declared.broken.Rule.TheVariants as rule
+use Rattle.ob_rules.specs.declared.broken.Rule.{Rule}
 use Rattle.ob_rules.specs.Judged.{notes_if}
 use Rattle.ob_rules.specs.Names.{Around, is_out, is_among}
 use Rattle.ob_rules.specs.Declarations.{twice, in_order, is_system, import_declared, target_of, import_if, imported}
@@ -85,17 +87,17 @@ pub nothing_both : {A : Type 0} (xs ys : List A) → xs ++ ys ≡ [] → (xs ≡
 nothing_both [] ys e = (refl, e)
 nothing_both (x ∷ xs) ys e = absurd cc
 
-quiet_if : (b : Bool) (rule : ℕ) (at : Pos) → (notes_if b rule at).broken ≡ [] → b ≡ false
-quiet_if true rule at e = absurd cc
-quiet_if false rule at e = refl
+quiet_if : (b : Bool) (which : Rule) (at : Pos) → (notes_if b which at).broken ≡ [] → b ≡ false
+quiet_if true which at e = absurd cc
+quiet_if false which at e = refl
 
 no_system : (is : List Import) (u : Around) → (in_order (map (λ i. import_declared i (target_of i)) is) u).part.notes.broken ≡ [] → AllByRecursion (λ i. is_system (target_of i).name ≡ false) is
 no_system [] u e = tt
 no_system (i ∷ is) u e =
     let d = import_declared i (target_of i) u in
     let p = nothing_both d.part.notes.broken (in_order (map (λ i. import_declared i (target_of i)) is) d.around).part.notes.broken e in
-    let q = nothing_both (notes_if (is_system (target_of i).name) 5 (target_of i).pos).broken (twice u i.ident).broken p.0 in
-    (quiet_if (is_system (target_of i).name) 5 (target_of i).pos q.0, no_system is d.around p.1)
+    let q = nothing_both (notes_if (is_system (target_of i).name) rule.ReservedModule (target_of i).pos).broken (twice u i.ident).broken p.0 in
+    (quiet_if (is_system (target_of i).name) rule.ReservedModule (target_of i).pos q.0, no_system is d.around p.1)
 
 allowed_of : (before : List (List ℕ)) (is : List Import) → AllByRecursion (λ i. is_system (target_of i).name ≡ false) is → AllByRecursion (λ m. (m ≢ codes "Out") × (m ≢ codes "SYSTEM")) (imported before is)
 allowed_of before [] h = tt

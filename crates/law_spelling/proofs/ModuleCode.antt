@@ -3,6 +3,9 @@ use Rattle.std.proofs.Common.{◌≡◌, ℕ, ◌+◌, ◌<◌, ◌≤◌, ◌^�
 use Rattle.std.specs.Prelude.{nat_le}
 use Rattle.std.specs.List.{AllByRecursion}
 use Rattle.std.proofs.lemmas.Bool.{false≢true, and_parts, leb-true}
+use Rattle.ob_trap.specs.declared.trap.Trap.TheVariants as trap
+use Rattle.ob_trap.specs.NumberLaws.{number_small}
+use Rattle.ob_trap.specs.Numbers.{trap_number}
 use Rattle.ob_tree.specs.declared.pos.Pos.{Pos}
 use Rattle.ob_tree.specs.declared.names.QName.{QName}
 use Rattle.ob_types.specs.declared.types.TypeRef.{TypeRef}
@@ -33,7 +36,7 @@ use Rattle.law_spelling.proofs.Stmts.{stmts_next, stmts_lines}
 
 closing_fits : (t : Option TypeRef) (at : Pos) (pc : ℕ) → PosFits at → LineFits pc (closing t at)
 closing_fits None at pc p = plain_fits pc op.Ret none refl refl (λ l. refl) none_fits
-closing_fits (Some t) at pc p = two_fit pc op.Trap (count 6) (count 0) at refl refl (count_fits 6 (omega arith)) (count_fits 0 (omega arith)) p
+closing_fits (Some t) at pc p = two_fit pc op.Trap (count (trap_number trap.NoReturn)) (count 0) at refl refl (count_fits (trap_number trap.NoReturn) (omega (arith, number_small trap.NoReturn))) (count_fits 0 (omega arith)) p
 
 -- what is known of a procedure: what code looks up in it has room, its activation has, and its statements are coded
 pub record IsReady (types : QName → Option Desc) (m : Module) (p : Procedure) : Type 0 where

@@ -19,6 +19,8 @@ use Rattle.ob_types.specs.declared.typed.TypedType.{TypedType}
 use Rattle.ob_types.specs.declared.typed.TypedParameter.{TypedParameter}
 use Rattle.ob_desc.specs.Grammar.{type_fits, param, signature}
 use Rattle.ob_format.specs.Names.{is_object}
+use Rattle.ob_rules.specs.declared.broken.Rule.TheVariants as rule
+use Rattle.ob_rules.specs.declared.broken.Rule.{Rule}
 use Rattle.ob_rules.specs.Judged.{Judged, sound, silent, both, made, noted, each_sound, wants, ◌▷◌}
 use Rattle.ob_rules.specs.Names.{Around, map_of, type_named, in_unit}
 use Rattle.ob_rules.specs.Phrases.{Phrase}
@@ -61,7 +63,7 @@ pub typed_around : (u : Around) (ts : List TypedType) → AreOk ts → AroundOk 
 typed_around u ts h g = record { unit = g.unit; front = g.front; later = g.later; known = g.known; own = all_both TypeOk ts u.own h g.own; shown = g.shown }
 
 named_ok : (u : Around) (at : Pos) (open_ok : Bool) (t : TypeRef) → type_fits t → HasTyping (named_typing u at open_ok t)
-named_ok u at open_ok t h = unless_has TypingOk _ 13 at _ (record { of = h; made = tt })
+named_ok u at open_ok t h = unless_has TypingOk _ rule.MisplacedOpenArray at _ (record { of = h; made = tt })
 
 own_fits : (u : Around) → AroundOk u → (name : List ℕ) → is_object name ≡ true → type_fits (ref.Named (in_unit u name))
 own_fits u g name h = (g.unit, h)
@@ -89,7 +91,7 @@ fixed_ok (l ∷ ls) element g u a name n m =
 
 pub array_ok : (ls : List Phrase) (at : Pos) (element : Written) → IsOk element → (u : Around) → AroundOk u → (name : List ℕ) → is_object name ≡ true → (m : Mark) (open_ok : Bool) → HasTyping (array u name m at open_ok ls element)
 array_ok [] at element g u a name n m open_ok =
-    also_has TypingOk _ 13 at _
+    also_has TypingOk _ rule.MisplacedOpenArray at _
     (then_has TypingOk TypingOk (element.typing u (element_name name) mark.Hidden element.open_array) (λ t. sound (typed_as u name (desc.OpenArray m t.of) t.made)) (g u a (element_name name) (element_object name n) mark.Hidden element.open_array)
     (λ t h. record { of = own_fits u a name n; made = ((n, h.of), h.made) }))
 array_ok (l ∷ ls) at element g u a name n m open_ok = fixed_ok (l ∷ ls) element g u a name n m
@@ -107,7 +109,7 @@ each_has P (j ∷ js) h =
     (both_have P (λ xs. AllByRecursion P xs) j (each_sound js) h.0 (each_has P js h.1)) (λ p k. (k.0, k.1))
 
 declared_ok : (u : Around) (base : Option (Option TypeRef)) (before : List (List ℕ)) (d : IdentDef) (t : TypeRef) → is_named d ≡ true → type_fits t → Has FieldIsSpelled (field_declared u base before d t)
-declared_ok u base before d t n h = later_has FieldIsSpelled (inherits base d.ident) _ (any_then FieldIsSpelled (marked u true d) _ (λ m. unless_has FieldIsSpelled _ 1 d.ident.pos _ (n, h)))
+declared_ok u base before d t n h = later_has FieldIsSpelled (inherits base d.ident) _ (any_then FieldIsSpelled (marked u true d) _ (λ m. unless_has FieldIsSpelled _ rule.DeclaredTwice d.ident.pos _ (n, h)))
 
 if_ok : (u : Around) (base : Option (Option TypeRef)) (before : List (List ℕ)) (d : IdentDef) (t : Option Typing) → is_named d ≡ true → IfThere TypingOk t → Has FieldIsSpelled (field_if u base before d t)
 if_ok u base before d (Some t) n h = declared_ok u base before d t.of n h.of
@@ -141,15 +143,15 @@ lists_ok (l ∷ ls) g u a name n base before =
     (both_have FieldsOk FieldsOk x y (with_ok u base before l.names (all_are l.names g.0.names) t (g.0.node u a (field_name name (first_name l.names)) (field_object name (first_name l.names) n (first_bytes l.names g.0.names)) mark.Hidden false)) (lists_ok ls g.1 u a name n base (names_behind l.names before)))
     (λ p h. record { fields = all_both FieldIsSpelled p.0.fields p.1.fields h.0.fields h.1.fields; made = all_both TypeOk p.0.made p.1.made h.0.made h.1.made })
 
-wanted : (b : Bool) (rule : ℕ) (at : Pos) (t : TypeRef) → type_fits t → Has type_fits (wants b rule at t)
-wanted true rule at t h = h
-wanted false rule at t h = tt
+wanted : (b : Bool) (which : Rule) (at : Pos) (t : TypeRef) → type_fits t → Has type_fits (wants b which at t)
+wanted true which at t h = h
+wanted false which at t h = tt
 
 pub base_ok : (u : Around) → AroundOk u → (o : Option Qualident) → Has (λ o. IfSome o type_fits) (base_if u o)
 base_ok u a None = tt
 base_ok u a (Some q) =
     then_has type_fits (λ o. IfSome o type_fits) (type_named u q ▷ base_of (map_of u) (first_of q)) (λ t. sound (Some t))
-    (then_has type_fits type_fits (type_named u q) (base_of (map_of u) (first_of q)) (type_has u a q) (λ t h. wanted _ 14 (first_of q) t h)) (λ t h. h)
+    (then_has type_fits type_fits (type_named u q) (base_of (map_of u) (first_of q)) (type_has u a q) (λ t h. wanted _ rule.UnfitBase (first_of q) t h)) (λ t h. h)
 
 pub record_ok : (u : Around) → AroundOk u → (name : List ℕ) → is_object name ≡ true → (m : Mark) (lists : List WrittenFields) → AreOkFields lists → (base : Judged (Option TypeRef)) → Has (λ o. IfSome o type_fits) base → HasTyping (record_with u name m lists base)
 record_ok u a name n m lists g base b =
@@ -233,7 +235,7 @@ sections_ok (s ∷ ss) g u a name n i =
 
 result_ok : (u : Around) → AroundOk u → (o : Option Qualident) → Has (λ o. IfSome o type_fits) (result_of u o)
 result_ok u a None = tt
-result_ok u a (Some q) = then_has type_fits (λ o. IfSome o type_fits) (type_named u q) (result_fits u (first_of q)) (type_has u a q) (λ t h. unless_has (λ o. IfSome o type_fits) _ 17 (first_of q) (Some t) h)
+result_ok u a (Some q) = then_has type_fits (λ o. IfSome o type_fits) (type_named u q) (result_fits u (first_of q)) (type_has u a q) (λ t h. unless_has (λ o. IfSome o type_fits) _ rule.StructuredResult (first_of q) (Some t) h)
 
 known_around : (u : Around) → AroundOk u → (s : Sections) → SectionsOk s → AroundOk (record u { known = s.known })
 known_around u g s h = record { unit = g.unit; front = g.front; later = g.later; known = h.known; own = g.own; shown = g.shown }

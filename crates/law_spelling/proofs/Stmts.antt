@@ -2,6 +2,10 @@
 use Rattle.std.proofs.Common.{◌≡◌, ℕ, suc, ◌+◌, ◌<◌, ◌≤◌, ◌^◌, Bool, true, false, List, [], ◌∷◌, ◌++◌, Option, Some, None, refl, arith}
 use Rattle.std.specs.Prelude.{IfSome, ℤ, pos, negsuc}
 use Rattle.std.specs.List.{AllByRecursion}
+use Rattle.ob_trap.specs.declared.trap.Trap.{Trap}
+use Rattle.ob_trap.specs.declared.trap.Trap.TheVariants as trap
+use Rattle.ob_trap.specs.NumberLaws.{number_small}
+use Rattle.ob_trap.specs.Numbers.{trap_number}
 use Rattle.ob_tree.specs.declared.pos.Pos.{Pos}
 use Rattle.ob_tree.specs.declared.names.QName.{QName}
 use Rattle.ob_types.specs.declared.types.TypeRef.TheVariants as ref
@@ -172,8 +176,8 @@ module _ (c : Context) (room : HasRoom c) where
       (expr_lines c room want.Value e pc h tt n (omega (arith, l)))
       (plain_fits p op.RetV none refl refl (λ l. refl) none_fits, tt)
 
-  trap_fits : (pc kind : ℕ) (at : Pos) → kind < 2 ^ 31 → PosFits at → LineFits pc (placed op.Trap (count kind) at)
-  trap_fits pc kind at h p = record { a = count_fits kind h; b = none_fits; no_a = λ l. absurd (omega (arith, l)); no_b = λ l. refl; placed = λ m. refl; at = p }
+  trap_fits : (pc : ℕ) (kind : Trap) (at : Pos) → PosFits at → LineFits pc (placed op.Trap (count (trap_number kind)) at)
+  trap_fits pc kind at p = record { a = count_fits (trap_number kind) (omega (arith, number_small kind)); b = none_fits; no_a = λ l. absurd (omega (arith, l)); no_b = λ l. refl; placed = λ m. refl; at = p }
 
   -- ---- THE CODE OF STATEMENTS
 
@@ -230,7 +234,7 @@ module _ (c : Context) (room : HasRoom c) where
         lines_both pc p (expr_code c want.Value e pc) (placed op.Assert (Number number) at ∷ []) (expr_ends c want.Value e pc)
         (expr_lines c room want.Value e pc h.0 tt n (omega (arith, m)))
         (placed_fits p op.Assert (Number number) at refl (names_one op.Assert (Number number) refl) h.1.0 h.1.1, tt)
-    stmt_lines l (Halt number at) pc t x h n m k y z = (two_fit pc op.Trap (count 11) (Number number) at refl refl (count_fits 11 (omega arith)) h.0 h.1, tt)
+    stmt_lines l (Halt number at) pc t x h n m k y z = (two_fit pc op.Trap (count (trap_number trap.Halted)) (Number number) at refl refl (count_fits (trap_number trap.Halted) (omega (arith, number_small trap.Halted))) h.0 h.1, tt)
     stmt_lines l (If branches otherwise) pc t x h n m k y z =
         let p1 = end_branches c branches pc in
         let u = next_branches c branches t in
@@ -247,15 +251,15 @@ module _ (c : Context) (room : HasRoom c) where
         let u = next_cases c cases (suc t) in
         let i = expr_ends c want.Value e (suc pc) in
         let j = cases_end c t cases p1 (suc t) x end in
-        let o = else_ends c 4 at otherwise p2 u x in
+        let o = else_ends c trap.NoCase at otherwise p2 u x in
         let v = cases_next c cases (suc t) in (
           local_fits pc t (omega (arith, k)),
-          lines_both (suc pc) q (expr_code c want.Value e (suc pc)) (bare op.Store ∷ (cases_code c t cases p1 (suc t) x end ++ else_code c 4 at otherwise p2 u x)) i
+          lines_both (suc pc) q (expr_code c want.Value e (suc pc)) (bare op.Store ∷ (cases_code c t cases p1 (suc t) x end ++ else_code c trap.NoCase at otherwise p2 u x)) i
               (expr_lines c room want.Value e (suc pc) h.0 tt (omega (arith, n)) (omega (arith, m, j, o))) (
                 store_fits q,
-                lines_both p1 p2 (cases_code c t cases p1 (suc t) x end) (else_code c 4 at otherwise p2 u x) j
+                lines_both p1 p2 (cases_code c t cases p1 (suc t) x end) (else_code c trap.NoCase at otherwise p2 u x) j
                     (cases_lines t l cases p1 (suc t) x end h.1.0 (omega (arith, k)) (omega (arith, n)) (omega (arith, o)) m (omega (arith, k)) (λ e. let f = y e in omega (arith, f, o)) z)
-                    (else_lines 4 (omega arith) at l otherwise p2 u x h.1.1.0 h.1.1.1 (omega (arith, n)) m (omega (arith, k, v)) y z),
+                    (else_lines trap.NoCase at l otherwise p2 u x h.1.1.0 h.1.1.1 (omega (arith, n)) m (omega (arith, k, v)) y z),
               ),
         )
     stmt_lines l (While e body at) pc t x h n m k y z =
@@ -344,11 +348,11 @@ module _ (c : Context) (room : HasRoom c) where
         let p1 = end_branches c branches pc in
         let u = next_branches c branches t in
         let end = end_else c otherwise p1 in
-        let i = else_ends c 5 at otherwise p1 u x in
+        let i = else_ends c trap.NoMatch at otherwise p1 u x in
         let j = branches_next c branches t in
-        lines_both pc p1 (branches_code c branches pc t x end) (else_code c 5 at otherwise p1 u x) (branches_end c branches pc t x end)
+        lines_both pc p1 (branches_code c branches pc t x end) (else_code c trap.NoMatch at otherwise p1 u x) (branches_end c branches pc t x end)
         (branches_lines l branches pc t x end h.0 (omega (arith, n)) (omega (arith, i)) m (omega (arith, k)) (λ e. let f = y e in omega (arith, f, i)) z)
-        (else_lines 5 (omega arith) at l otherwise p1 u x h.1.0 h.1.1 (omega (arith, n)) m (omega (arith, k, j)) y z)
+        (else_lines trap.NoMatch at l otherwise p1 u x h.1.0 h.1.1 (omega (arith, n)) m (omega (arith, k, j)) y z)
 
     pub stmts_lines : (l : Bool) (s : Stmts) (pc t x : ℕ) → StmtsAreCoded c l s → need_stmts c s ≤ 256 → end_stmts c s pc ≤ top → t + hidden_of_all s ≤ few → (l ≡ true → end_stmts c s pc < x) → x ≤ top → LinesFit pc (stmts_code c s pc t x)
     stmts_lines l Nothing pc t x h n m k y z = tt
@@ -399,6 +403,6 @@ module _ (c : Context) (room : HasRoom c) where
               ),
         )
 
-    else_lines : (kind : ℕ) → kind < 2 ^ 31 → (at : Pos) (l : Bool) (o : Otherwise) (pc t x : ℕ) → ElseIsCoded c l o → PosFits at → need_else c o ≤ 256 → end_else c o pc ≤ top → t + hidden_of_else o ≤ few → (l ≡ true → end_else c o pc < x) → x ≤ top → LinesFit pc (else_code c kind at o pc t x)
-    else_lines kind i at l NoElse pc t x h p n m k y z = (trap_fits pc kind at i p, tt)
-    else_lines kind i at l (Else body) pc t x h p n m k y z = stmts_lines l body pc t x h n m k y z
+    else_lines : (kind : Trap) (at : Pos) (l : Bool) (o : Otherwise) (pc t x : ℕ) → ElseIsCoded c l o → PosFits at → need_else c o ≤ 256 → end_else c o pc ≤ top → t + hidden_of_else o ≤ few → (l ≡ true → end_else c o pc < x) → x ≤ top → LinesFit pc (else_code c kind at o pc t x)
+    else_lines kind at l NoElse pc t x h p n m k y z = (trap_fits pc kind at p, tt)
+    else_lines kind at l (Else body) pc t x h p n m k y z = stmts_lines l body pc t x h n m k y z

@@ -23,6 +23,7 @@ use Rattle.ob_types.specs.declared.typed.OutProcedure.{OutProcedure}
 use Rattle.ob_rules.specs.declared.entity.Entity.{Entity}
 use Rattle.ob_rules.specs.declared.entity.Entity.TheVariants as entity
 use Rattle.ob_rules.specs.declared.entity.Known.{Known}
+use Rattle.ob_rules.specs.declared.broken.Rule.TheVariants as rule
 use Rattle.ob_rules.specs.Judged.{Judged, sound, both, made, noted, each_sound, ◌▷◌}
 use Rattle.ob_rules.specs.Names.{Around, map_of, in_unit, find_name, is_enclosing, variable_known, entity_known, shown_of, export_known, exported, type_of_desc, out_type, out_procedure, type_in, type_of_entity, type_behind, unless_variable_is, unless_variable, type_by, type_named, is_out, own_desc, out_string, type_desc, found_in_scope, predeclared}
 use Rattle.ob_rules.specs.Phrases.{Phrase}
@@ -288,7 +289,7 @@ module _ (types : QName → Option Desc) (unit : List ℕ) (shown : QName → Op
   pub name_good : (q : Qualident) → ShortName q → (P : List ℕ) (u : Around) → IsFine P u → (b : ℕ) (name : List ℕ) (open_ok : Bool) → Has (IsTyping P b name) (type_named u q ▷ named_typing u (first_of q) open_ok)
   name_good q h P u f b name open_ok =
       then_has (RefShort P) (IsTyping P b name) (type_named u q) (named_typing u (first_of q) open_ok) (type_has P u f q h)
-      (λ t k. unless_has (IsTyping P b name) _ 13 (first_of q) (record { of = t; made = [] }) (record { made = made_none P b; of = λ p c l n. ref_more 64 c l t (k p) }))
+      (λ t k. unless_has (IsTyping P b name) _ rule.MisplacedOpenArray (first_of q) (record { of = t; made = [] }) (record { made = made_none P b; of = λ p c l n. ref_more 64 c l t (k p) }))
 
   -- ---- arrays
 
@@ -319,7 +320,7 @@ module _ (types : QName → Option Desc) (unit : List ℕ) (shown : QName → Op
       let n = element_length name in
       let inside = length (element_name name) + D in
       let b = length name + (200 + D) in
-      also_has (IsTyping P b name) _ 13 at _
+      also_has (IsTyping P b name) _ rule.MisplacedOpenArray at _
       (then_has (IsTyping P inside (element_name name)) (IsTyping P b name) (element.typing u (element_name name) mark.Hidden element.open_array) (λ t. sound (typed_as u name (desc.OpenArray m t.of) t.made)) (g P u f (element_name name) mark.Hidden element.open_array)
       (λ t h. as_good P u b name (desc.OpenArray m t.of) t.made (omega arith) (λ p. tt) (made_more P inside b (omega (arith, n)) t.made h.made)))
   array_good D (l ∷ ls) at element g P u f name m open_ok =

@@ -30,6 +30,7 @@ use Rattle.ob_rules.specs.declared.meant.Chosen.{Chosen}
 use Rattle.ob_rules.specs.declared.meant.Meant.{Meant}
 use Rattle.ob_rules.specs.declared.meant.Meant.TheVariants as means
 use Rattle.ob_rules.specs.declared.meant.Where.{Where}
+use Rattle.ob_rules.specs.declared.broken.Rule.TheVariants as rule
 use Rattle.ob_rules.specs.Judged.{Judged, sound, both, also, wants}
 use Rattle.ob_rules.specs.Shapes.{Map, open_element, is_array, by_var, is_open, is_record, passing_of}
 use Rattle.ob_rules.specs.Names.{Around, map_of}
@@ -81,9 +82,9 @@ by_var_fits k false false t x = tt
 
 variable_keeps : (k : Setting) (map : Map) (t : TypeRef) (start : Pos) (p : Place) → PlaceOk k p → Keeps (ActualOk k) (variable_actual map t start p)
 variable_keeps k map t start p h =
-    also_keeps (ActualOk k) _ 25 start (unless_read_only map t start p)
-    (also_keeps (ActualOk k) p.read_only 26 start (unless_guarded map t start p)
-    (also_keeps (ActualOk k) p.guarded 38 start (sound (actual_of (passing_of map mode.Var t) t (e.Designator p.designator.inner)))
+    also_keeps (ActualOk k) _ rule.UnfitParameter start (unless_read_only map t start p)
+    (also_keeps (ActualOk k) p.read_only rule.NotChangeable start (unless_guarded map t start p)
+    (also_keeps (ActualOk k) p.guarded rule.GuardedVarParameter start (sound (actual_of (passing_of map mode.Var t) t (e.Designator p.designator.inner)))
     (actual_ok k (passing_of map mode.Var t) t (e.Designator p.designator.inner) (designator_e k p h) (by_var_fits k (is_open map t) (is_record map t) t (expr_view (e.Designator p.designator.inner))))))
 
 meant_keeps : (k : Setting) (map : Map) (t : TypeRef) (start : Pos) (m : Meant) → MeantOk k m → Keeps (ActualOk k) (meant_actual map t start m)
@@ -102,7 +103,7 @@ tree_for_ok k false x h = tree_ok k x h
 value_keeps : (k : Setting) (u : Around) → k.Stands u → (t : TypeRef) (start : Pos) (x : Valued) → ValuedOk k x → Keeps (ActualOk k) (value_actual (map_of u) t start x)
 value_keeps k u s t start x h =
     let map = map_of u in
-    wants_so (ActualOk k) (takes_value map (open_element map t) t x) 25 start (actual_of (passing_of map mode.Value t) t (tree_for (is_array map t) x))
+    wants_so (ActualOk k) (takes_value map (open_element map t) t x) rule.UnfitParameter start (actual_of (passing_of map mode.Value t) t (tree_for (is_array map t) x))
     (λ i. actual_ok k (passing_of map mode.Value t) t (tree_for (is_array map t) x) (tree_for_ok k (is_array map t) x h) (value_room k.words map (λ v n r. k.room u s v n r) k x t (is_array map t) h i))
 
 actual_keeps : (k : Setting) (u : Around) → k.Stands u → (m : Mode) (t : TypeRef) (p : Phrase) → PhraseOk k p → Keeps (ActualOk k) (actual u m t p)
@@ -124,8 +125,8 @@ actuals_keep k u s (f ∷ fs) (p ∷ ps) g =
 called_keeps : (k : Setting) (u : Around) → k.Stands u → (w : Where) (at : Pos) (s : Signature) (ps : List Phrase) → ArePhrases k ps → (f : List Actual → TypedExpr) → ((xs : List Actual) → AllByRecursion (ActualOk k) xs → NodeOk k (f xs)) → Keeps (ValuedOk k) (called u w at s ps f)
 called_keeps k u st w at s ps g f h =
     then_keeps (AllByRecursion (ActualOk k)) (ValuedOk k) (actuals u s.params ps) (called_with w at s (length ps) f) (actuals_keep k u st s.params ps g)
-    (λ xs q. then_keeps (AllByRecursion (ActualOk k)) (ValuedOk k) (wants _ 24 at xs) (λ ys. also (misplaced w (is_some s.result)) 27 at (sound (computed (f ys) (result_type s.result)))) (wants_keeps (AllByRecursion (ActualOk k)) _ 24 at xs q)
-    (λ ys r. also_keeps (ValuedOk k) (misplaced w (is_some s.result)) 27 at (sound (computed (f ys) (result_type s.result))) (h ys r)))
+    (λ xs q. then_keeps (AllByRecursion (ActualOk k)) (ValuedOk k) (wants _ rule.WrongParameterCount at xs) (λ ys. also (misplaced w (is_some s.result)) rule.MisplacedCall at (sound (computed (f ys) (result_type s.result)))) (wants_keeps (AllByRecursion (ActualOk k)) _ rule.WrongParameterCount at xs q)
+    (λ ys r. also_keeps (ValuedOk k) (misplaced w (is_some s.result)) rule.MisplacedCall at (sound (computed (f ys) (result_type s.result))) (h ys r)))
 
 call_e : (k : Setting) (f : Callee) (xs : List Actual) (at : Pos) (t : Option TypeRef) → PosFits at → AllByRecursion (ActualOk k) xs → NodeOk k (e.Call f xs at t)
 call_e k f xs at t h g = node_e k _ (Call f (actuals_view xs) at t) (view_call f xs at t) (actuals_fit k xs g, h) tt
@@ -154,7 +155,7 @@ receiver_ok k receiver.Record c h = actual_ok k passing.VariableRecord (ref.Name
 bound_keeps : (k : Setting) (b : Bool) (u : Around) → k.Stands u → (w : Where) (at : Pos) → PosFits at → (c : Chosen) (ps : List Phrase) → ArePhrases k ps → ChosenOk k c → Keeps (ValuedOk k) (call_bound_sound b u w at c ps)
 bound_keeps k false u st w at f c ps g h = then_keeps Anything (ValuedOk k) (actuals u [] ps) _ (any_keeps (actuals u [] ps)) (λ xs q. tt)
 bound_keeps k true u st w at f c ps g h =
-    also_keeps (ValuedOk k) _ 26 at (called u w at c.method.signature ps (λ xs. e.Call (bound_callee c c.base) (receiver_actual c.method.receiver c ∷ xs) at c.method.signature.result))
+    also_keeps (ValuedOk k) _ rule.NotChangeable at (called u w at c.method.signature ps (λ xs. e.Call (bound_callee c c.base) (receiver_actual c.method.receiver c ∷ xs) at c.method.signature.result))
     (called_keeps k u st w at c.method.signature ps g (λ xs. e.Call (bound_callee c c.base) (receiver_actual c.method.receiver c ∷ xs) at c.method.signature.result)
     (λ xs r. call_e k (bound_callee c c.base) (receiver_actual c.method.receiver c ∷ xs) at c.method.signature.result f (receiver_ok k c.method.receiver c h, r)))
 

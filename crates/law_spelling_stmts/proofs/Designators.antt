@@ -40,6 +40,7 @@ use Rattle.ob_tree.specs.declared.ident.Mark.{Mark}
 use Rattle.ob_tree.specs.declared.ident.Mark.TheVariants as mark
 use Rattle.ob_types.specs.declared.desc.Desc.TheVariants as desc
 use Rattle.ob_rules.specs.declared.entity.Known.{Known}
+use Rattle.ob_rules.specs.declared.broken.Rule.TheVariants as rule
 use Rattle.law_spelling.specs.Coded.{PosFits}
 use Rattle.law_spelling_stmts.proofs.Setting.{EntityOk, Setting, PlaceOk, ValuedOk, ChosenOk, MeantOk, Keeps, any_keeps, then_keeps, made_keeps, wants_keeps, named_d, tree_ok, find_has}
 use Rattle.law_spelling_stmts.proofs.Calls.{PhraseOk, ArePhrases, call_procedure_keeps, call_variable_keeps, call_out_keeps, call_bound_keeps}
@@ -74,7 +75,7 @@ pub variable_keeps : (k : Setting) (u : Around) (at : Pos) → PosFits at → (v
 variable_keeps k u at f v t b = guards_keep k (map_of u) at f v u.guards (sound (variable_at v t b)) (variable_ok k v t b)
 
 guard_keeps : (k : Setting) (map : Map) (at : Pos) → PosFits at → (p : Place) (t : TypeRef) → PlaceOk k p → Keeps (MeantOk k) (guard map at p t)
-guard_keeps k map at f p t h = then_keeps Anything (MeantOk k) (found_or 23 at (guard_of map p t)) _ (any_keeps (found_or 23 at (guard_of map p t))) (λ g q. guarded_ok k p g t at true f h)
+guard_keeps k map at f p t h = then_keeps Anything (MeantOk k) (found_or rule.UnfitTypeTest at (guard_of map p t)) _ (any_keeps (found_or rule.UnfitTypeTest at (guard_of map p t))) (λ g q. guarded_ok k p g t at true f h)
 
 -- ---- dereferences, indices and fields
 
@@ -110,7 +111,7 @@ length_ok k u s t e (Some n) i = k.lengths u s t e n i
 
 into_keeps : (k : Setting) (u : Around) → k.Stands u → (at : Pos) → PosFits at → (p : Place) (i : Judged Valued) (o : Option (Option ℕ × TypeRef)) → array_of (map_of u) p.of ≡ o → PlaceOk k p → Keeps (ValuedOk k) i → Keeps (PlaceOk k) (index_into (map_of u) at p i o)
 into_keeps k u s at f p i None e h g = tt
-into_keeps k u s at f p i (Some a) e h g = then_keeps (ValuedOk k) (PlaceOk k) i _ g (λ x q. wants_keeps (PlaceOk k) (is_integer (map_of u) x) 22 at (indexed p at x a) (indexed_ok k p at x a f (length_ok k u s p.of a.1 a.0 e) h q))
+into_keeps k u s at f p i (Some a) e h g = then_keeps (ValuedOk k) (PlaceOk k) i _ g (λ x q. wants_keeps (PlaceOk k) (is_integer (map_of u) x) rule.UnfitSelector at (indexed p at x a) (indexed_ok k p at x a f (length_ok k u s p.of a.1 a.0 e) h q))
 
 index_if_keeps : (k : Setting) (o : Option Place) (i : Judged Valued) (f : Place → Judged Place) → IfThere (PlaceOk k) o → ((p : Place) → PlaceOk k p → Keeps (PlaceOk k) (f p)) → Keeps (PlaceOk k) (index_if o i f)
 index_if_keeps k None i f h g = tt

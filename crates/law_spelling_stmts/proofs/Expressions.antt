@@ -29,6 +29,7 @@ use Rattle.ob_rules.specs.declared.meant.Meant.{Meant}
 use Rattle.ob_rules.specs.declared.meant.Meant.TheVariants as means
 use Rattle.ob_rules.specs.declared.meant.Where.{Where}
 use Rattle.ob_rules.specs.declared.meant.Where.TheVariants.{InExpression}
+use Rattle.ob_rules.specs.declared.broken.Rule.TheVariants as rule
 use Rattle.ob_rules.specs.Judged.{Judged, sound, made, breaks, both, each_sound, ◌▷◌, is_quiet}
 use Rattle.ob_rules.specs.Shapes.{Map, pointed_record}
 use Rattle.ob_rules.specs.Names.{Around, map_of, type_named}
@@ -99,16 +100,16 @@ test_of_ok k map x t (Some a) h = pointer_test_ok k x (if_extends map guarded.Po
 test_of_ok k map x t None h = test_record_ok k map x t h
 
 test_keeps : (k : Setting) (map : Map) (at : Pos) (x : Valued) (t : TypeRef) → ValuedOk k x → Keeps (ValuedOk k) (test map at x t)
-test_keeps k map at x t h = found_keeps (ValuedOk k) 23 at (test_of map x t (record_if map (type_in (type x)))) (test_of_ok k map x t (record_if map (type_in (type x))) h)
+test_keeps k map at x t h = found_keeps (ValuedOk k) rule.UnfitTypeTest at (test_of map x t (record_if map (type_in (type x)))) (test_of_ok k map x t (record_if map (type_in (type x))) h)
 
 untestable_keeps : (k : Setting) (map : Map) (at : Pos) (j : Judged Valued) → Keeps (ValuedOk k) j → Keeps (ValuedOk k) (untestable map at j)
-untestable_keeps k map at j h = then_keeps (ValuedOk k) (ValuedOk k) j _ h (λ v q. wants_keeps (ValuedOk k) (testable map v) 23 at v q)
+untestable_keeps k map at j h = then_keeps (ValuedOk k) (ValuedOk k) j _ h (λ v q. wants_keeps (ValuedOk k) (testable map v) rule.UnfitTypeTest at v q)
 
 is_test_keeps : (k : Setting) (u : Around) (at : Pos) (j : Judged Valued) (r : Phrase) (o : Option Qualident) → Keeps (ValuedOk k) j → Keeps (ValuedOk k) (is_test u at j r o)
 is_test_keeps k u at j r (Some q) h =
     then_keeps (λ (p : Valued × TypeRef). ValuedOk k p.0 × Unit {0}) (ValuedOk k) (both (untestable (map_of u) at j) (type_named u q)) (λ p. test (map_of u) at p.0 p.1)
     (both_keep (ValuedOk k) Anything (untestable (map_of u) at j) (type_named u q) (untestable_keeps k (map_of u) at j h) (any_keeps (type_named u q))) (λ p g. test_keeps k (map_of u) at p.0 p.1 g.0)
-is_test_keeps k u at j r None h = then_keeps Anything (ValuedOk k) (both j (r.value u)) _ (any_keeps (both j (r.value u))) (λ p g. also_keeps (ValuedOk k) (not (testable (map_of u) p.0)) 23 at (breaks 21 at) tt)
+is_test_keeps k u at j r None h = then_keeps Anything (ValuedOk k) (both j (r.value u)) _ (any_keeps (both j (r.value u))) (λ p g. also_keeps (ValuedOk k) (not (testable (map_of u) p.0)) rule.UnfitTypeTest at (breaks rule.UnfitOperands at) tt)
 
 -- ---- chains, relations and sets
 
@@ -242,8 +243,8 @@ module _ (k : Setting) where
 
   expr_cases : (y : Expr-F SX SB SD SR ST) → PX (roll-Expr (map-Expr SX SB SD SR ST Expr Selector Designator Element Tail (λ x. x.0) (λ x. x.0) (λ x. x.0) (λ x. x.0) (λ x. x.0) y))
   expr_cases (Expr-F.Designator n) = by_layers (Expr-F.Designator n.0) (λ e. designator_ok k (named_of n.0) (n.1 e))
-  expr_cases (Expr-F.Int at text) = by_layers (Expr-F.Int at text) (λ e. plain k at (λ u. integer_literal at (integer_text text)) (pos_ok at e) (λ u s. wants_so (ValuedOk k) (nat_le (integer_text text) 2147483647) 9 at (constant (literal.Int (pos (integer_text text)))) (λ i. (number_long (integer_text text) i, tt))))
-  expr_cases (Expr-F.Char at text) = by_layers (Expr-F.Char at text) (λ e. plain k at (λ u. char_literal at (marked 0 text)) (pos_ok at e) (λ u s. wants_so (ValuedOk k) (nat_le (marked 0 text) 255) 9 at (constant (literal.Char (marked 0 text))) (λ i. (code_small (marked 0 text) i, tt))))
+  expr_cases (Expr-F.Int at text) = by_layers (Expr-F.Int at text) (λ e. plain k at (λ u. integer_literal at (integer_text text)) (pos_ok at e) (λ u s. wants_so (ValuedOk k) (nat_le (integer_text text) 2147483647) rule.LiteralTooLarge at (constant (literal.Int (pos (integer_text text)))) (λ i. (number_long (integer_text text) i, tt))))
+  expr_cases (Expr-F.Char at text) = by_layers (Expr-F.Char at text) (λ e. plain k at (λ u. char_literal at (marked 0 text)) (pos_ok at e) (λ u s. wants_so (ValuedOk k) (nat_le (marked 0 text) 255) rule.LiteralTooLarge at (constant (literal.Char (marked 0 text))) (λ i. (code_small (marked 0 text) i, tt))))
   expr_cases (Expr-F.Str at text) = by_layers (Expr-F.Str at text) (λ e. let p = and_parts (pos_fits at) (text_fits text) e in plain k at (λ u. sound (constant (text_value text))) (pos_ok at p.0) (λ u s. text_con text p.1))
   expr_cases (Expr-F.Nil at) = by_layers (Expr-F.Nil at) (λ e. plain k at (λ u. sound (constant literal.Nil)) (pos_ok at e) (λ u s. (tt, tt)))
   expr_cases (Expr-F.Set at xs) =

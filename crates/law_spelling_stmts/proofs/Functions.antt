@@ -30,6 +30,7 @@ use Rattle.ob_rules.specs.declared.meant.Asked.TheVariants as asked
 use Rattle.ob_rules.specs.declared.meant.Where.{Where}
 use Rattle.ob_rules.specs.declared.broken.Predeclared.{Predeclared}
 use Rattle.ob_rules.specs.declared.broken.Predeclared.TheVariants as pre
+use Rattle.ob_rules.specs.declared.broken.Rule.TheVariants as rule
 use Rattle.ob_rules.specs.Judged.{Judged, sound, each_sound}
 use Rattle.ob_rules.specs.Shapes.{Map, array_of, record_of, pointed, is_held}
 use Rattle.ob_rules.specs.Names.{Around, map_of}
@@ -49,7 +50,7 @@ use Rattle.law_spelling_stmts.proofs.Calls.{MeantKeeps, PhraseOk, ArePhrases}
 use Rattle.law_lists.proofs.Lists.{Anything, IfThere, less_true}
 
 changed_meant_keeps : (k : Setting) (start : Pos) (m : Meant) → MeantOk k m → Keeps (ValuedOk k) (changed_meant start m)
-changed_meant_keeps k start (means.Place p) h = unless_keeps (ValuedOk k) p.read_only 26 start (value_at p) h
+changed_meant_keeps k start (means.Place p) h = unless_keeps (ValuedOk k) p.read_only rule.NotChangeable start (value_at p) h
 changed_meant_keeps k start (means.Call x) h = only_ok k x h
 changed_meant_keeps k start m h = tt
 
@@ -60,7 +61,7 @@ changed_as_keeps k u s p g (Some f) h = then_keeps (MeantOk k) (ValuedOk k) (f u
 parameter_keeps : (k : Setting) (u : Around) → k.Stands u → (a : Asked) (p : Phrase) → PhraseOk k p → Keeps (ValuedOk k) (parameter u a p)
 parameter_keeps k u s asked.Value p g = g.value u s
 parameter_keeps k u s asked.Changed p g = changed_as_keeps k u s p g p.meant g.meant
-parameter_keeps k u s asked.Constant p g = then_keeps (ValuedOk k) (ValuedOk k) (p.value u) _ (g.value u s) (λ x h. wants_keeps (ValuedOk k) (is_some (constant_in x)) 10 p.start x h)
+parameter_keeps k u s asked.Constant p g = then_keeps (ValuedOk k) (ValuedOk k) (p.value u) _ (g.value u s) (λ x h. wants_keeps (ValuedOk k) (is_some (constant_in x)) rule.NotConstant p.start x h)
 
 values_keep : (k : Setting) (u : Around) → k.Stands u → (ps : List Phrase) → ArePhrases k ps → AllByRecursion (Keeps (ValuedOk k)) (values u ps)
 values_keep k u s [] g = tt
@@ -227,14 +228,14 @@ extreme_keeps k b at (Some t) None = tt
 extreme_keeps k b at None o = tt
 
 extreme_call_keeps : (k : Setting) (b : Bool) (u : Around) (w : Where) (at : Pos) (ps : List Phrase) → Keeps (MeantOk k) (extreme_call b u w at ps)
-extreme_call_keeps k b u w at [] = also_keeps (MeantOk k) (misplaced w true) 27 at _ tt
-extreme_call_keeps k b u w at (p ∷ []) = then_keeps Anything (MeantOk k) (type_parameter u p p.name) _ (any_keeps (type_parameter u p p.name)) (λ t q. also_keeps (MeantOk k) (misplaced w true) 27 at (extreme_of b at t (basic_if (map_of u) t)) (extreme_keeps k b at t (basic_if (map_of u) t)))
+extreme_call_keeps k b u w at [] = also_keeps (MeantOk k) (misplaced w true) rule.MisplacedCall at _ tt
+extreme_call_keeps k b u w at (p ∷ []) = then_keeps Anything (MeantOk k) (type_parameter u p p.name) _ (any_keeps (type_parameter u p p.name)) (λ t q. also_keeps (MeantOk k) (misplaced w true) rule.MisplacedCall at (extreme_of b at t (basic_if (map_of u) t)) (extreme_keeps k b at t (basic_if (map_of u) t)))
 extreme_call_keeps k b u w at (p ∷ q ∷ ps) =
-    then_keeps Anything (MeantOk k) (type_parameter u p p.name) _ (any_keeps (type_parameter u p p.name)) (λ t r. then_keeps Anything (MeantOk k) (each_sound (values u (q ∷ ps))) _ (any_keeps (each_sound (values u (q ∷ ps)))) (λ xs i. also_keeps (MeantOk k) (misplaced w true) 27 at _ tt))
+    then_keeps Anything (MeantOk k) (type_parameter u p p.name) _ (any_keeps (type_parameter u p p.name)) (λ t r. then_keeps Anything (MeantOk k) (each_sound (values u (q ∷ ps))) _ (any_keeps (each_sound (values u (q ∷ ps)))) (λ xs i. also_keeps (MeantOk k) (misplaced w true) rule.MisplacedCall at _ tt))
 
 pub predeclared_keeps : (k : Setting) (u : Around) → k.Stands u → (w : Where) (at : Pos) → PosFits at → (f : Predeclared) (ps : List Phrase) → ArePhrases k ps → Keeps (MeantOk k) (call_predeclared u w at f ps)
 predeclared_keeps k u s w at i pre.Max ps g = extreme_call_keeps k true u w at ps
 predeclared_keeps k u s w at i pre.Min ps g = extreme_call_keeps k false u w at ps
 predeclared_keeps k u s w at i f ps g =
     then_keeps (AllByRecursion (ValuedOk k)) (MeantOk k) (each_sound (parameters u f ps)) (call_fit u w f at) (each_keep (ValuedOk k) (parameters u f ps) (parameters_keep k u s f ps g))
-    (λ xs h. also_keeps (MeantOk k) (misplaced w (is_function f)) 27 at (if_fit at (fit (map_of u) f at xs)) (if_fit_keeps k at (fit (map_of u) f at xs) (all_fit k u s f at i xs h)))
+    (λ xs h. also_keeps (MeantOk k) (misplaced w (is_function f)) rule.MisplacedCall at (if_fit at (fit (map_of u) f at xs)) (if_fit_keeps k at (fit (map_of u) f at xs) (all_fit k u s f at i xs h)))

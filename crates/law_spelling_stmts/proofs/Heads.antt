@@ -25,6 +25,7 @@ use Rattle.ob_types.specs.declared.typed.TypedStmt.{TypedStmt}
 use Rattle.ob_rules.specs.declared.entity.Entity.{Entity}
 use Rattle.ob_rules.specs.declared.entity.Entity.TheVariants as entity
 use Rattle.ob_rules.specs.declared.entity.Known.{Known}
+use Rattle.ob_rules.specs.declared.broken.Rule.TheVariants as rule
 use Rattle.ob_tree.specs.declared.ident.Mark.TheVariants as mark
 use Rattle.ob_rules.specs.Expressions.{phrase_of, constant_value}
 use Rattle.ob_rules.specs.Statements.{judging, in_turn}
@@ -150,9 +151,9 @@ behind_stands a u s false h = by h.is_bound
 
 -- one that is declared twice is not settled
 its_types : (a : Level) (t : Bool) (h : Head) (u : Around) → IsSettled a (declared_head t h u) → Have a (types_of h.parameters)
-its_types a true h u s = absurd (no (back_empty h.notes.broken (broken_at 1 h.at).broken s.0))
+its_types a true h u s = absurd (no (back_empty h.notes.broken (broken_at rule.DeclaredTwice h.at).broken s.0))
   where
-    no : (broken_at 1 h.at).broken ≡ [] → ⊥
+    no : (broken_at rule.DeclaredTwice h.at).broken ≡ [] → ⊥
     no e = absurd cc
 its_types a false h u s = s.1
 

@@ -46,6 +46,7 @@ use Rattle.std.specs.Int.{w32}
 use Rattle.ob_types.specs.declared.value.Value.{Value}
 use Rattle.ob_types.specs.declared.value.Value.TheVariants as literal
 use Rattle.ob_rules.specs.declared.meant.Selects.TheVariants as selecting
+use Rattle.ob_rules.specs.declared.broken.Rule.TheVariants as rule
 use Rattle.law_spelling.specs.Coded.{PosFits, LabelIsCoded}
 use Rattle.law_spelling_stmts.specs.Fits.{ExprFits, StmtsFit, BranchesFit, CasesFit}
 use Rattle.law_spelling_stmts.proofs.Setting.{Con, int_fits, small_fits, Setting, E, S, PlaceOk, ValuedOk, MeantOk, Keeps, any_keeps, then_keeps, both_keep, made_keeps, unless_keeps, wants_keeps, wants_so, named_e, tree_ok}
@@ -82,7 +83,7 @@ turn_if_keeps k u s (Some fs) g = made_keeps (AreOk k u.in_loop) (IfThere (AreOk
 -- ---- assignments and calls
 
 target_keeps : (k : Setting) (at : Pos) (m : Meant) → MeantOk k m → Keeps (PlaceOk k) (target at m)
-target_keeps k at (means.Place p) h = unless_keeps (PlaceOk k) p.read_only 26 at p h
+target_keeps k at (means.Place p) h = unless_keeps (PlaceOk k) p.read_only rule.NotChangeable at p h
 target_keeps k at m h = tt
 
 assigned_tree_ok : (k : Setting) (b : Bool) (x : Valued) → ValuedOk k x → E k (assigned_tree b x)
@@ -93,7 +94,7 @@ assigns_keep : (k : Setting) (l : Bool) (map : Map) (at : Pos) → PosFits at �
 assigns_keep k l map at f p x h g =
     let how = assignment_of map p x in
     let t = assigned_tree (is_array map p.of) x in
-    wants_keeps (AreOk k l) (fits map p.of x) 31 at (stmt.Assign p.designator.inner how t at ∷ [])
+    wants_keeps (AreOk k l) (fits map p.of x) rule.NotAssignable at (stmt.Assign p.designator.inner how t at ∷ [])
     (named_s k l _ (Assign (designator_view p.designator.inner) how (expr_view t) at) (view_assign p.designator.inner how t at) (h, (assigned_tree_ok k (is_array map p.of) x g, f)), tt)
 
 pub assignment_keeps : (k : Setting) (n : Named) (at : Pos) → PosFits at → (x : Phrase) → NamedOk k n → PhraseOk k x → (u : Around) → k.Stands u → Keeps (AreOk k u.in_loop) (assignment u n at x)
@@ -128,7 +129,7 @@ call_keeps k n g u s = then_keeps (MeantOk k) (AreOk k u.in_loop) (meant_by AsSt
 -- ---- conditions and branches
 
 condition_keeps : (k : Setting) (u : Around) → k.Stands u → (x : Phrase) → PhraseOk k x → Keeps (E k) (condition u x)
-condition_keeps k u s x g = then_keeps (ValuedOk k) (E k) (x.value u) _ (g.value u s) (λ v h. wants_keeps (E k) _ 32 x.start (tree v) (tree_ok k v h))
+condition_keeps k u s x g = then_keeps (ValuedOk k) (E k) (x.value u) _ (g.value u s) (λ v h. wants_keeps (E k) _ rule.NotBoolean x.start (tree v) (tree_ok k v h))
 
 abbrev OneFits : Setting → Bool → OneBranch → Type 0
 OneFits k l b = ExprFits k.words b.test × StmtsFit k.words l b.body
@@ -276,23 +277,23 @@ case_keeps k at f x cs o g h i u s =
     let c = cases u (selects_if (map_of u) j.node) [] cs in
     then_keeps (λ (p : Valued × (List TypedCase × Option (List TypedStmt))). ValuedOk k p.0 × (AllByRecursion (CaseOk k l) p.1.0 × IfThere (AreOk k l) p.1.1)) (AreOk k l) (both j (both c (in_turn_if o u))) _
     (both_keep (ValuedOk k) (λ (p : List TypedCase × Option (List TypedStmt)). AllByRecursion (CaseOk k l) p.0 × IfThere (AreOk k l) p.1) j (both c (in_turn_if o u))
-    (then_keeps (ValuedOk k) (ValuedOk k) (x.value u) (case_value (map_of u) x.start) (g.value u s) (λ v q. wants_keeps (ValuedOk k) _ 33 x.start v q))
+    (then_keeps (ValuedOk k) (ValuedOk k) (x.value u) (case_value (map_of u) x.start) (g.value u s) (λ v q. wants_keeps (ValuedOk k) _ rule.UnfitCase x.start v q))
     (both_keep (AllByRecursion (CaseOk k l)) (IfThere (AreOk k l)) c (in_turn_if o u) (cases_keep k u s (selects_if (map_of u) j.node) [] cs h) (turn_if_keeps k u s o i)))
     (λ p q. (case_s k l (tree p.0) p.1.0 p.1.1 at f (tree_ok k p.0 q.0) q.1.0 q.1.1, tt))
 
 -- ---- FOR
 
 for_variable_keeps : (k : Setting) (u : Around) (at : Pos) (x : Ident) → PosFits x.pos → (e : Entity) → Keeps (PlaceOk k) (for_variable u at x e)
-for_variable_keeps k u at x f (entity.Variable v t) = then_keeps (PlaceOk k) (PlaceOk k) (variable_named u x.pos v t false) (λ p. integer_place (map_of u) at p) (variable_keeps k u x.pos f v t false) (λ p q. wants_keeps (PlaceOk k) _ 34 at p q)
+for_variable_keeps k u at x f (entity.Variable v t) = then_keeps (PlaceOk k) (PlaceOk k) (variable_named u x.pos v t false) (λ p. integer_place (map_of u) at p) (variable_keeps k u x.pos f v t false) (λ p q. wants_keeps (PlaceOk k) _ rule.UnfitFor at p q)
 for_variable_keeps k u at x f (entity.TypeName t) = tt
 for_variable_keeps k u at x f (entity.Module m) = tt
 for_variable_keeps k u at x f e = tt
 
 bound_keeps : (k : Setting) (map : Map) (at : Pos) (p : Place) (j : Judged Valued) → Keeps (ValuedOk k) j → Keeps (E k) (bound_if map at (Some p) j)
-bound_keeps k map at p j h = then_keeps (ValuedOk k) (E k) j (for_bound map at p) h (λ x q. wants_keeps (E k) (fits map p.of x) 34 at (tree x) (tree_ok k x q))
+bound_keeps k map at p j h = then_keeps (ValuedOk k) (E k) j (for_bound map at p) h (λ x q. wants_keeps (E k) (fits map p.of x) rule.UnfitFor at (tree x) (tree_ok k x q))
 
 step_fits : (at : Pos) (v : Value) → Con v → Keeps (FitsSigned w32) (step_value at v)
-step_fits at (literal.Int z) h = unless_keeps (FitsSigned w32) _ 34 at z (int_fits z h.0)
+step_fits at (literal.Int z) h = unless_keeps (FitsSigned w32) _ rule.UnfitFor at z (int_fits z h.0)
 step_fits at (literal.Bool b) h = tt
 step_fits at (literal.Char c) h = tt
 step_fits at (literal.Set n) h = tt
@@ -319,11 +320,11 @@ for_keeps k at f x e a b step body g h t i u s =
 -- ---- EXIT and RETURN
 
 pub exit_keeps : (k : Setting) (u : Around) (at : Pos) → Keeps (AreOk k u.in_loop) (rules.exit u at)
-exit_keeps k u at = wants_so (AreOk k u.in_loop) u.in_loop 35 at (stmt.Exit ∷ []) (λ e. (named_s k u.in_loop stmt.Exit Exit view_exit e, tt))
+exit_keeps k u at = wants_so (AreOk k u.in_loop) u.in_loop rule.MisplacedExit at (stmt.Exit ∷ []) (λ e. (named_s k u.in_loop stmt.Exit Exit view_exit e, tt))
 
 returned_keeps : (k : Setting) (l : Bool) (map : Map) (at : Pos) (o : Option TypeRef) (x : Valued) → ValuedOk k x → Keeps (AreOk k l) (returned map at o x)
 returned_keeps k l map at None x h = tt
-returned_keeps k l map at (Some t) x h = wants_keeps (AreOk k l) (fits map t x) 36 at (stmt.Return (Some (tree x)) ∷ []) (named_s k l _ (Return (Some (expr_view (tree x)))) (view_return (Some (tree x))) (tree_ok k x h), tt)
+returned_keeps k l map at (Some t) x h = wants_keeps (AreOk k l) (fits map t x) rule.UnfitReturn at (stmt.Return (Some (tree x)) ∷ []) (named_s k l _ (Return (Some (expr_view (tree x)))) (view_return (Some (tree x))) (tree_ok k x h), tt)
 
 none_keeps : (k : Setting) (l : Bool) (at : Pos) (o : Option TypeRef) → Keeps (AreOk k l) (return_none at o)
 none_keeps k l at None = (named_s k l _ (Return None) (view_return None) tt, tt)
@@ -360,7 +361,7 @@ with_meant_keeps k u s None x f g = designates_keeps k u s InExpression x g [] t
 with_meant_keeps k u s (Some m) x f g = qualified_keeps k u s m x f g (find_name u.known m.name)
 
 with_place_keeps : (k : Setting) (map : Map) (at : Pos) (m : Meant) → MeantOk k m → Keeps (PlaceOk k) (with_place map at m)
-with_place_keeps k map at (means.Place p) h = wants_keeps (PlaceOk k) _ 37 at p h
+with_place_keeps k map at (means.Place p) h = wants_keeps (PlaceOk k) _ rule.UnfitWith at p h
 with_place_keeps k map at m h = tt
 
 guard_test_ok : (k : Setting) (p : Place) (g : Guarded) (q : QName) → PlaceOk k p → E k (guard_test p g q)

@@ -17,6 +17,8 @@ use Rattle.ob_types.specs.declared.typed.TypedModule.{TypedModule}
 use Rattle.ob_types.specs.TypedSyntax.{Module}
 use Rattle.ob_types.specs.TypedView.{module_view}
 use Rattle.ob_rules.specs.declared.broken.Broken.{Broken as BrokenRule}
+use Rattle.ob_rules.specs.declared.broken.Rule.TheVariants as rule
+use Rattle.ob_rules.specs.declared.broken.Rule.{Rule}
 use Rattle.ob_rules.specs.Judged.{notes_if}
 use Rattle.ob_rules.specs.Names.{is_out}
 use Rattle.ob_rules.specs.Declarations.{Part, declaration, module_of, name_judged, typed_module, if_unbroken, first_break, checked, is_system, target_of}
@@ -62,9 +64,9 @@ lengths_laid types m (t ∷ ts) h = (length_laid types m t h.0, lengths_laid typ
 
 -- ---- imports
 
-quiet_if : (b : Bool) (rule : ℕ) (at : Pos) → (notes_if b rule at).broken ≡ [] → b ≡ false
-quiet_if true rule at e = absurd cc
-quiet_if false rule at e = refl
+quiet_if : (b : Bool) (which : Rule) (at : Pos) → (notes_if b which at).broken ≡ [] → b ≡ false
+quiet_if true which at e = absurd cc
+quiet_if false which at e = refl
 
 quiet_is : (bs : List BrokenRule) (x m : TypedModule) → if_unbroken bs x ≡ Some m → bs ≡ []
 quiet_is [] x m e = refl
@@ -86,8 +88,8 @@ name_plain shown tree m e =
     let parts : Part = module_of shown tree.name tree.imports (map declaration tree.decls) (map judging tree.body) tree.closing in
     let k = quiet_is parts.notes.broken (typed_module shown tree.name tree.imports (map declaration tree.decls) parts) m e in
     let a = nothing_both (name_judged tree.name tree.closing).broken _ k in
-    let b = nothing_both (notes_if (is_out tree.name.name || is_system tree.name.name) 5 tree.name.pos).broken _ a.0 in
-    quiet_if (is_out tree.name.name || is_system tree.name.name) 5 tree.name.pos b.0
+    let b = nothing_both (notes_if (is_out tree.name.name || is_system tree.name.name) rule.ReservedModule tree.name.pos).broken _ a.0 in
+    quiet_if (is_out tree.name.name || is_system tree.name.name) rule.ReservedModule tree.name.pos b.0
 
 other_is : (root m : List ℕ) → is_built_in root ≡ false → IsOther root m → bytes_eq m root ≡ false
 other_is root m plain h = go (is_built_in m) refl

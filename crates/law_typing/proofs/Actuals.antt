@@ -37,6 +37,7 @@ use Rattle.ob_rules.specs.declared.meant.Where.TheVariants.{InExpression}
 use Rattle.ob_rules.specs.declared.values.Place.{Place}
 use Rattle.ob_rules.specs.declared.values.Valued.{Valued}
 use Rattle.ob_rules.specs.declared.values.Valued.TheVariants as valued
+use Rattle.ob_rules.specs.declared.broken.Rule.TheVariants as rule
 use Rattle.ob_rules.specs.Judged.{Judged, sound, breaks, both}
 use Rattle.ob_rules.specs.Shapes.{Map, shape, array_of, array_at, open_element, open_at, is_array, is_open, is_structured, record_of, element_is, by_value, by_var, passing_of}
 use Rattle.ob_rules.specs.Names.{Around, map_of}
@@ -233,7 +234,7 @@ module _ (program : Program) (Has : Formals → QName → Type 0) (unit : List �
         by (OpenForm r) g = open_value t (open_element map t) x d.0 h refl (is_open_by t r d g) e
 
     value_actual_is : (t : TypeRef) (start : Pos) (x : Valued) → IsKnown map t → Is x → Makes (λ a. ActualIs mode.Value t (actual_view a)) (value_actual map t start x)
-    value_actual_is t start x d h = makes_wants _ (takes_value map (open_element map t) t x) 25 start (actual_of (passing_of map mode.Value t) t (tree_for (is_array map t) x)) (λ e. passed_so mode.Value t (tree_for (is_array map t) x) d (value_passes t x d h e))
+    value_actual_is t start x d h = makes_wants _ (takes_value map (open_element map t) t x) rule.UnfitParameter start (actual_of (passing_of map mode.Value t) t (tree_for (is_array map t) x)) (λ e. passed_so mode.Value t (tree_for (is_array map t) x) d (value_passes t x d h e))
 
     -- BY VAR
 
@@ -290,9 +291,9 @@ module _ (program : Program) (Has : Formals → QName → Type 0) (unit : List �
 
     variable_actual_is : (t : TypeRef) (start : Pos) (p : Place) → IsKnown map t → P p → GuardIs p → Makes (λ a. ActualIs mode.Var t (actual_view a)) (variable_actual map t start p)
     variable_actual_is t start p d h un =
-        makes_also _ (not (takes_variable map (open_element map t) t p.of)) 25 start (unless_read_only map t start p) λ f.
-        makes_also _ p.read_only 26 start (unless_guarded map t start p) λ g.
-        makes_also _ p.guarded 38 start (sound (actual_of (passing_of map mode.Var t) t (e.Designator p.designator.inner))) λ k.
+        makes_also _ (not (takes_variable map (open_element map t) t p.of)) rule.UnfitParameter start (unless_read_only map t start p) λ f.
+        makes_also _ p.read_only rule.NotChangeable start (unless_guarded map t start p) λ g.
+        makes_also _ p.guarded rule.GuardedVarParameter start (sound (actual_of (passing_of map mode.Var t) t (e.Designator p.designator.inner))) λ k.
         record { node = passed_so mode.Var t (e.Designator p.designator.inner) d (variable_passes t p d h (un k) (not_false (takes_variable map (open_element map t) t p.of) f)) }
 
     meant_actual_is : (o : Option Received) (t : TypeRef) (start : Pos) (m : Meant) → IsKnown map t → MeantIs program Has unit held result map o InExpression m → Makes (λ a. ActualIs mode.Var t (actual_view a)) (meant_actual map t start m)
@@ -309,7 +310,7 @@ module _ (program : Program) (Has : Formals → QName → Type 0) (unit : List �
 
   module _ (u : Around) (scoped : IsScoped program Has unit held result u) where
     var_is : (t : TypeRef) (p : Phrase) (o : Option (Around → Judged Meant)) → IsKnown (map_of u) t → PhraseIs program Has unit held result p → MeantBy program Has unit held result o u → Makes (λ a. ActualIs mode.Var t (actual_view a)) (var_actual u t p o)
-    var_is t p None d h k = record { node = (makes_then (ValuedIs program Has unit held result (map_of u)) _ (p.value u) (λ x. breaks 25 p.start) (h.value u scoped) (λ x l. record { node = tt })).node }
+    var_is t p None d h k = record { node = (makes_then (ValuedIs program Has unit held result (map_of u)) _ (p.value u) (λ x. breaks rule.UnfitParameter p.start) (h.value u scoped) (λ x l. record { node = tt })).node }
     var_is t p (Some f) d h k = makes_then (MeantIs program Has unit held result (map_of u) u.receiver InExpression) _ (f u) (meant_actual (map_of u) t p.start) k (λ m l. meant_actual_is (map_of u) scoped.forms u.receiver t p.start m d l)
 
     actual_is : (m : Mode) (t : TypeRef) (p : Phrase) → IsKnown (map_of u) t → PhraseIs program Has unit held result p → Makes (λ a. ActualIs m t (actual_view a)) (actual u m t p)

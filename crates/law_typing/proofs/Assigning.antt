@@ -30,6 +30,7 @@ use Rattle.law_simulation_relation.specs.Typed.{char, passing_for}
 use Rattle.ob_rules.specs.declared.values.Place.{Place}
 use Rattle.ob_rules.specs.declared.values.Valued.{Valued}
 use Rattle.ob_rules.specs.declared.values.Valued.TheVariants as valued
+use Rattle.ob_rules.specs.declared.broken.Rule.TheVariants as rule
 use Rattle.ob_rules.specs.Shapes.{Map, array_of, array_at, open_element, open_at, is_array, is_record, is_structured, record_of, by_value, passing_of}
 use Rattle.ob_rules.specs.Shapes as shapes
 use Rattle.ob_rules.specs.Values.{text_of, fits}
@@ -243,5 +244,5 @@ module _ (program : Program) (Has : Formals → QName → Type 0) (unit : List �
 
   pub assigns_is : (l : Bool) (at : Pos) (p : Place) (x : Valued) → PlaceIs program Has unit held result map p → Is x → Makes (AreStatements program Has unit held result l) (assigns map at p x)
   assigns_is l at p x h k =
-      makes_wants (AreStatements program Has unit held result l) (fits map p.of x) 31 at (stmt.Assign p.designator.inner (assignment_of map p x) (assigned_tree (is_array map p.of) x) at ∷ []) λ f.
+      makes_wants (AreStatements program Has unit held result l) (fits map p.of x) rule.NotAssignable at (stmt.Assign p.designator.inner (assignment_of map p x) (assigned_tree (is_array map p.of) x) at ∷ []) λ f.
       (subst (λ s. typed.StmtOk program Has unit held result s l) (sym (view_assign p.designator.inner (assignment_of map p x) (assigned_tree (is_array map p.of) x) at)) (h.fits, assigned_is p x h k f), tt)

@@ -26,6 +26,7 @@ use Rattle.ob_rules.specs.declared.meant.Chosen.{Chosen}
 use Rattle.ob_rules.specs.declared.meant.Where.{Where}
 use Rattle.ob_rules.specs.declared.values.Place.{Place}
 use Rattle.ob_rules.specs.declared.values.Valued.{Valued}
+use Rattle.ob_rules.specs.declared.broken.Rule.TheVariants as rule
 use Rattle.ob_rules.specs.Judged.{silent}
 use Rattle.ob_rules.specs.Shapes.{Map, pointed, record_of, is_held}
 use Rattle.ob_rules.specs.Names.{Around, map_of}
@@ -127,7 +128,7 @@ module _ (program : Program) (Has : Formals → QName → Type 0) (unit : List �
     sound_is false w at c ps h k = makes_then (λ xs. Unit {0}) (Called w) (actuals u [] ps) (λ xs. silent) (makes_any (actuals u [] ps)) (λ xs l. record { node = tt })
     sound_is true w at c ps h k =
         let g = signature_at_call c c.base h.calls in
-        makes_also (Called w) (is_record_receiver c.method.receiver && ((receiver_place c).read_only && is_none c.base)) 26 at (called u w at c.method.signature ps (λ xs. e.Call (bound_callee c c.base) (receiver_actual c.method.receiver c ∷ xs) at c.method.signature.result)) λ q.
+        makes_also (Called w) (is_record_receiver c.method.receiver && ((receiver_place c).read_only && is_none c.base)) rule.NotChangeable at (called u w at c.method.signature ps (λ xs. e.Call (bound_callee c c.base) (receiver_actual c.method.receiver c ∷ xs) at c.method.signature.result)) λ q.
         called_is program Has unit held result u scoped (λ xs. Signed xs c.method.signature.params) w at c.method.signature ps (λ xs. e.Call (bound_callee c c.base) (receiver_actual c.method.receiver c ∷ xs) at c.method.signature.result) g.result
         (actuals_are program Has unit held result u scoped c.method.signature.params ps g.params k) (λ xs l. tree_at at c xs c.base h h.calls l)
 

@@ -34,6 +34,7 @@ use Rattle.ob_rules.specs.declared.meant.Selects.{Selects}
 use Rattle.ob_rules.specs.declared.meant.Where.TheVariants.{InExpression}
 use Rattle.ob_rules.specs.declared.values.Place.{Place}
 use Rattle.ob_rules.specs.declared.values.Valued.{Valued}
+use Rattle.ob_rules.specs.declared.broken.Rule.TheVariants as rule
 use Rattle.ob_rules.specs.Judged.{Judged, sound, both, made, ◌▷◌}
 use Rattle.ob_rules.specs.Shapes.{is_pointer}
 use Rattle.ob_rules.specs.Names.{Around, map_of, named, find_name, type_named}
@@ -125,7 +126,7 @@ module _ (program : Program) (Has : Formals → QName → Type 0) (unit : List �
         by false None f g k = not_true k
 
     judged_is : (x : Phrase) → PhraseIs program Has unit held result x → Makes Chosen (case_judged u x)
-    judged_is x h = makes_then Is Chosen (x.value u) (case_value (map_of u) x.start) (h.value u s) (λ v k. makes_wants Chosen (is_some (selects (map_of u) v)) 33 x.start v (λ e. chosen_is v k e))
+    judged_is x h = makes_then Is Chosen (x.value u) (case_value (map_of u) x.start) (h.value u s) (λ v k. makes_wants Chosen (is_some (selects (map_of u) v)) rule.UnfitCase x.start v (λ e. chosen_is v k e))
 
     abbrev CaseIs : TypedCase → Type 0
     CaseIs c = typed.StmtsOk program Has unit held result (case_view c).body u.in_loop
@@ -205,7 +206,7 @@ module _ (program : Program) (Has : Formals → QName → Type 0) (unit : List �
     meant_is (Some m) x = by_known m x (find_name u.known m.name)
 
     place_is : (at : Pos) (m : Meant) → M m → Makes P (with_place (map_of u) at m)
-    place_is at (means.Place p) h = makes_wants P (is_pointer (map_of u) p.of || p.var_record) 37 at p (λ e. h.0)
+    place_is at (means.Place p) h = makes_wants P (is_pointer (map_of u) p.of || p.var_record) rule.UnfitWith at p (λ e. h.0)
     place_is at (means.Constant c) h = record { node = tt }
     place_is at (means.Procedure q t) h = record { node = tt }
     place_is at (means.Bound c) h = record { node = tt }

@@ -38,6 +38,7 @@ use Rattle.ob_rules.specs.declared.meant.Where.{Where}
 use Rattle.ob_rules.specs.declared.meant.Where.TheVariants.{InExpression, AsStatement, Elsewhere}
 use Rattle.ob_rules.specs.declared.values.Place.{Place}
 use Rattle.ob_rules.specs.declared.values.Valued.{Valued}
+use Rattle.ob_rules.specs.declared.broken.Rule.TheVariants as rule
 use Rattle.ob_rules.specs.Judged.{sound, both, also, wants}
 use Rattle.ob_rules.specs.Shapes.{Map, shape, open_at, open_element, is_structured, array_at, array_of, is_array, is_char_array, signature_at, by_value, passing_of}
 use Rattle.ob_rules.specs.Names.{Around, map_of, type_desc, out_string}
@@ -114,8 +115,8 @@ module _ (program : Program) (Has : Formals → QName → Type 0) (unit : List �
     pub called_is : (Q : List Actual → Type 0) (w : Where) (at : Pos) (s : Signature) (ps : List Phrase) (f : List Actual → TypedExpr) → ResultIs program s.result → Makes (λ xs. length ps ≡ length s.params → Q xs) (actuals u s.params ps) → ((xs : List Actual) → Q xs → CallIs s.result (expr_view (f xs))) → Makes (Called w) (called u w at s ps f)
     called_is Q w at s ps f d h k =
         makes_then (λ xs. length ps ≡ length s.params → Q xs) (Called w) (actuals u s.params ps) (called_with w at s (length ps) f) h λ xs g.
-        makes_then Q (Called w) (wants (nat_eq (length ps) (length s.params)) 24 at xs) (λ ys. also (misplaced w (is_some s.result)) 27 at (sound (computed (f ys) (result_type s.result)))) (makes_wants Q (nat_eq (length ps) (length s.params)) 24 at xs (λ e. g (nat_is (length ps) (length s.params) e))) λ ys q.
-        makes_also (Called w) (misplaced w (is_some s.result)) 27 at (sound (computed (f ys) (result_type s.result))) λ e.
+        makes_then Q (Called w) (wants (nat_eq (length ps) (length s.params)) rule.WrongParameterCount at xs) (λ ys. also (misplaced w (is_some s.result)) rule.MisplacedCall at (sound (computed (f ys) (result_type s.result)))) (makes_wants Q (nat_eq (length ps) (length s.params)) rule.WrongParameterCount at xs (λ e. g (nat_is (length ps) (length s.params) e))) λ ys q.
+        makes_also (Called w) (misplaced w (is_some s.result)) rule.MisplacedCall at (sound (computed (f ys) (result_type s.result))) λ e.
         record { node = call_there w (f ys) s.result d (k ys q) e }
 
     -- of a call by its view
@@ -244,7 +245,7 @@ module _ (program : Program) (Has : Formals → QName → Type 0) (unit : List �
     string_actuals (p ∷ []) k =
         makes_then (λ r. StringIs (actual_view r.0) × (r.1 ≡ [])) _ (both (actual u mode.Value (ref.Named out_string) p) (sound [])) (λ r. sound (r.0 ∷ r.1))
         (makes_both (λ a. StringIs (actual_view a)) (λ xs. xs ≡ []) (actual u mode.Value (ref.Named out_string) p) (sound [])
-        (makes_then (ValuedIs program Has unit held result (map_of u)) _ (p.value u) (value_actual (map_of u) (ref.Named out_string) p.start) (k.0.value u scoped) (λ x h. makes_wants _ (takes_value (map_of u) (open_element (map_of u) (ref.Named out_string)) (ref.Named out_string) x) 25 p.start (actual_of (passing_of (map_of u) mode.Value (ref.Named out_string)) (ref.Named out_string) (tree_for (is_array (map_of u) (ref.Named out_string)) x)) (string_actual x h)))
+        (makes_then (ValuedIs program Has unit held result (map_of u)) _ (p.value u) (value_actual (map_of u) (ref.Named out_string) p.start) (k.0.value u scoped) (λ x h. makes_wants _ (takes_value (map_of u) (open_element (map_of u) (ref.Named out_string)) (ref.Named out_string) x) rule.UnfitParameter p.start (actual_of (passing_of (map_of u) mode.Value (ref.Named out_string)) (ref.Named out_string) (tree_for (is_array (map_of u) (ref.Named out_string)) x)) (string_actual x h)))
         (record { node = refl }))
         (λ r h. record { node = λ e. subst (λ xs. StringsAre (actuals_view (r.0 ∷ xs))) (sym h.1) h.0 })
     string_actuals (p ∷ q ∷ qs) k = record { node = anything (actuals u string_params (p ∷ q ∷ qs)).node }

@@ -23,6 +23,7 @@ use Rattle.law_simulation_relation.specs.Typed as typed
 use Rattle.law_simulation_relation.specs.Typed.{longint, IsVariableRecord, IsRecordType}
 use Rattle.ob_rules.specs.declared.values.Place.{Place}
 use Rattle.ob_rules.specs.declared.values.Valued.{Valued}
+use Rattle.ob_rules.specs.declared.broken.Rule.TheVariants as rule
 use Rattle.ob_rules.specs.Judged.{Judged, sound, wants}
 use Rattle.ob_rules.specs.Shapes.{Map, AField, pointed, pointed_record, record_if, record_of, array_of, is_array, is_record, is_held, extends_record, member}
 use Rattle.ob_rules.specs.Names.{Around}
@@ -133,7 +134,7 @@ module _ (program : Program) (Has : Formals → QName → Type 0) (unit : List �
 
   index_into_is : (at : Pos) (p : Place) (i : Judged Valued) (o : Option (Option ℕ × TypeRef)) → P p → Makes (V program Has unit held result map forms) i → array_of map p.of ≡ o → Makes (λ q. P q × (q.selected ≡ true) × GuardIs q) (index_into map at p i o)
   index_into_is at p i None h k e = record { node = tt }
-  index_into_is at p i (Some a) h k e = makes_then (V program Has unit held result map forms) (λ q. P q × (q.selected ≡ true) × GuardIs q) i (λ x. wants (is_integer map x) 22 at (indexed p at x a)) k (λ x v. makes_wants (λ q. P q × (q.selected ≡ true) × GuardIs q) (is_integer map x) 22 at (indexed p at x a) (λ f. (indexed_is p at x a h e (long_fits x v f), refl, index_unguarded p at x a)))
+  index_into_is at p i (Some a) h k e = makes_then (V program Has unit held result map forms) (λ q. P q × (q.selected ≡ true) × GuardIs q) i (λ x. wants (is_integer map x) rule.UnfitSelector at (indexed p at x a)) k (λ x v. makes_wants (λ q. P q × (q.selected ≡ true) × GuardIs q) (is_integer map x) rule.UnfitSelector at (indexed p at x a) (λ f. (indexed_is p at x a h e (long_fits x v f), refl, index_unguarded p at x a)))
 
   pub index_is : (at : Pos) (p : Place) (i : Judged Valued) → P p → Makes (V program Has unit held result map forms) i → Makes (λ q. P q × (q.selected ≡ true) × GuardIs q) (index map at p i)
   index_is at p i h k = go (implicitly map is_array_at at p (pointed map p.of)).node (implicitly_is is_array_at at p (pointed map p.of) h refl).node

@@ -30,6 +30,7 @@ use Rattle.ob_rules.specs.declared.meant.Meant.TheVariants as means
 use Rattle.ob_rules.specs.declared.meant.Where.{Where}
 use Rattle.ob_rules.specs.declared.meant.Where.TheVariants.{InExpression}
 use Rattle.ob_rules.specs.declared.values.Valued.{Valued}
+use Rattle.ob_rules.specs.declared.broken.Rule.TheVariants as rule
 use Rattle.ob_rules.specs.Judged.{Judged, sound, breaks, also, wants, both, each_sound, made, ◌▷◌}
 use Rattle.ob_rules.specs.Shapes.{Map, basic_of, array_of, pointed, is_held, record_of}
 use Rattle.ob_rules.specs.Shapes as shapes
@@ -178,7 +179,7 @@ module _ (program : Program) (Has : Formals → QName → Type 0) (unit : List �
     Giv a x = Given program Has unit held result (map_of u) scoped.forms a x
 
     changed_place : (start : Pos) (m : Meant) → MeantIs program Has unit held result (map_of u) u.receiver InExpression m → Makes (Giv asked.Changed) (changed_meant start m)
-    changed_place start (means.Place p) h = makes_unless (Giv asked.Changed) p.read_only 26 start (value_at p) (λ e q f. subst (PlaceIs program Has unit held result (map_of u)) (some_same f) h.0)
+    changed_place start (means.Place p) h = makes_unless (Giv asked.Changed) p.read_only rule.NotChangeable start (value_at p) (λ e q f. subst (PlaceIs program Has unit held result (map_of u)) (some_same f) h.0)
     changed_place start (means.Call x) h = record { node = λ p e. none_some (sym (no_place x) ∙ e) }
     changed_place start (means.Constant v) h = record { node = tt }
     changed_place start (means.Procedure q s) h = record { node = tt }
@@ -194,7 +195,7 @@ module _ (program : Program) (Has : Formals → QName → Type 0) (unit : List �
     parameter_is : (a : Asked) (p : Phrase) → PhraseIs program Has unit held result p → Makes (Giv a) (parameter u a p)
     parameter_is asked.Value p h = record { node = (h.value u scoped).node }
     parameter_is asked.Changed p h = changed_is p p.meant h (h.meant u scoped)
-    parameter_is asked.Constant p h = makes_then (ValuedIs program Has unit held result (map_of u)) (Giv asked.Constant) (p.value u) (λ x. wants (is_some (constant_in x)) 10 p.start x) (h.value u scoped) (λ x k. makes_wants (Giv asked.Constant) (is_some (constant_in x)) 10 p.start x (λ e. k))
+    parameter_is asked.Constant p h = makes_then (ValuedIs program Has unit held result (map_of u)) (Giv asked.Constant) (p.value u) (λ x. wants (is_some (constant_in x)) rule.NotConstant p.start x) (h.value u scoped) (λ x k. makes_wants (Giv asked.Constant) (is_some (constant_in x)) rule.NotConstant p.start x (λ e. k))
 
     given_all : (f : Predeclared) (ps : List Phrase) → ArePhrases program Has unit held result ps → Makes (AreGiven (map_of u) scoped.forms f) (each_sound (parameters u f ps))
     given_all f [] h = record { node = tt }
@@ -221,18 +222,18 @@ module _ (program : Program) (Has : Formals → QName → Type 0) (unit : List �
     fitted : (at : Pos) (f : Predeclared) (ps : List Phrase) → ArePhrases program Has unit held result ps → Makes N (each_sound (parameters u f ps) ▷ call_fit u w f at)
     fitted at f ps h =
         makes_then (AreGiven (map_of u) scoped.forms f) N (each_sound (parameters u f ps)) (call_fit u w f at) (given_all f ps h) λ xs k.
-        makes_also N (misplaced w (is_function f)) 27 at (if_fit at (fit (map_of u) f at xs)) λ e.
+        makes_also N (misplaced w (is_function f)) rule.MisplacedCall at (if_fit at (fit (map_of u) f at xs)) λ e.
         fit_is (map_of u) scoped.forms u.receiver w at (fit (map_of u) f at xs) (fit_there (map_of u) scoped.forms u.receiver w f at xs e k)
 
     extreme_call_is : (max : Bool) (at : Pos) (ps : List Phrase) → Makes N (extreme_call max u w at ps)
-    extreme_call_is max at [] = makes_also N (misplaced w true) 27 at (breaks 28 at) (λ e. record { node = tt })
+    extreme_call_is max at [] = makes_also N (misplaced w true) rule.MisplacedCall at (breaks rule.UnfitPredeclaredParameters at) (λ e. record { node = tt })
     extreme_call_is max at (p ∷ []) =
-        makes_then (λ t. Unit {0}) N (type_parameter u p p.name) (λ t. also (misplaced w true) 27 at (extreme_of max at t (basic_if (map_of u) t))) (makes_any (type_parameter u p p.name)) λ t k.
-        makes_also N (misplaced w true) 27 at (extreme_of max at t (basic_if (map_of u) t)) (λ e. extreme_there (map_of u) scoped.forms u.receiver w max at t (basic_if (map_of u) t) e)
+        makes_then (λ t. Unit {0}) N (type_parameter u p p.name) (λ t. also (misplaced w true) rule.MisplacedCall at (extreme_of max at t (basic_if (map_of u) t))) (makes_any (type_parameter u p p.name)) λ t k.
+        makes_also N (misplaced w true) rule.MisplacedCall at (extreme_of max at t (basic_if (map_of u) t)) (λ e. extreme_there (map_of u) scoped.forms u.receiver w max at t (basic_if (map_of u) t) e)
     extreme_call_is max at (p ∷ q ∷ qs) =
-        makes_then (λ t. Unit {0}) N (type_parameter u p p.name) (λ t. each_sound (values u (q ∷ qs)) ▷ λ xs. also (misplaced w true) 27 at (breaks 28 at)) (makes_any (type_parameter u p p.name)) λ t k.
-        makes_then (λ xs. Unit {0}) N (each_sound (values u (q ∷ qs))) (λ xs. also (misplaced w true) 27 at (breaks 28 at)) (makes_any (each_sound (values u (q ∷ qs)))) λ xs l.
-        makes_also N (misplaced w true) 27 at (breaks 28 at) (λ e. record { node = tt })
+        makes_then (λ t. Unit {0}) N (type_parameter u p p.name) (λ t. each_sound (values u (q ∷ qs)) ▷ λ xs. also (misplaced w true) rule.MisplacedCall at (breaks rule.UnfitPredeclaredParameters at)) (makes_any (type_parameter u p p.name)) λ t k.
+        makes_then (λ xs. Unit {0}) N (each_sound (values u (q ∷ qs))) (λ xs. also (misplaced w true) rule.MisplacedCall at (breaks rule.UnfitPredeclaredParameters at)) (makes_any (each_sound (values u (q ∷ qs)))) λ xs l.
+        makes_also N (misplaced w true) rule.MisplacedCall at (breaks rule.UnfitPredeclaredParameters at) (λ e. record { node = tt })
 
     pub call_predeclared_is : (at : Pos) (f : Predeclared) (ps : List Phrase) → ArePhrases program Has unit held result ps → Makes N (call_predeclared u w at f ps)
     call_predeclared_is at pre.Max ps h = extreme_call_is true at ps

@@ -35,6 +35,7 @@ use Rattle.ob_rules.specs.declared.entity.Entity.TheVariants as entity
 use Rattle.ob_rules.specs.declared.values.Place.{Place}
 use Rattle.ob_rules.specs.declared.values.Valued.{Valued}
 use Rattle.ob_rules.specs.declared.values.Valued.TheVariants as valued
+use Rattle.ob_rules.specs.declared.broken.Rule.TheVariants as rule
 use Rattle.ob_rules.specs.Judged.{Judged, sound, both, is_quiet, ◌▷◌}
 use Rattle.ob_rules.specs.Shapes.{Map, basic_of, width_of, pointed_record, record_of}
 use Rattle.ob_rules.specs.Names.{Around, map_of, named}
@@ -198,7 +199,7 @@ module _ (program : Program) (Has : Formals → QName → Type 0) (unit : List �
     counter_is : (x : Ident) (v : Variable) (t : TypeRef) (at : Pos) → VariableIs program Has unit held result (map_of u) v t → Makes Counts (variable_named u x.pos v t false ▷ λ p. integer_place (map_of u) at p)
     counter_is x v t at h =
         makes_then (CounterIs (map_of u) s.forms v t) Counts (variable_named u x.pos v t false) (λ p. integer_place (map_of u) at p) (counter_there (map_of u) s.forms x.pos v t u.guards h s.guards)
-        (λ p k. makes_wants Counts (is_some (width_of (basic_of (map_of u) p.of))) 34 at p (λ e. counts (map_of u) s.forms v t p h k e))
+        (λ p k. makes_wants Counts (is_some (width_of (basic_of (map_of u) p.of))) rule.UnfitFor at p (λ e. counts (map_of u) s.forms v t p h k e))
 
     for_there : (at : Pos) (x : Ident) (e : Entity) → EntityIs program Has unit held result u s x e → Makes Counts (for_variable u at x e)
     for_there at x (entity.Variable v t) h = counter_is x v t at (s.variables x.name h.k v t h.known h.is (h.near v t refl))
@@ -218,14 +219,14 @@ module _ (program : Program) (Has : Formals → QName → Type 0) (unit : List �
     bound_there : (at : Pos) (p : Place) (x : Phrase) → Counts p → PhraseIs program Has unit held result x → Makes (Bounds p) (x.value u ▷ for_bound (map_of u) at p)
     bound_there at p x h k =
         makes_then (ValuedIs program Has unit held result (map_of u)) (Bounds p) (x.value u) (for_bound (map_of u) at p) (k.value u s) λ v l.
-        makes_wants (Bounds p) (fits (map_of u) p.of v) 34 at (tree v) λ f.
+        makes_wants (Bounds p) (fits (map_of u) p.of v) rule.UnfitFor at (tree v) λ f.
         (scalar_fits program Has unit held result (map_of u) s.forms p.of v h.known.0 l f (subst Scalar (sym h.form) tt), long_is (map_of u) s.forms p.of h.w v h.known h.form l f)
 
     abbrev IsStep : ℤ → Type 0
     IsStep z = is_in width.LongInt z ≡ true
 
     step_there : (at : Pos) (c : Literal) → ConstantIs c → Makes IsStep (step_value at c)
-    step_there at (literal.Int z) h = makes_unless IsStep (int_eq z (pos 0)) 34 at z (λ e. h)
+    step_there at (literal.Int z) h = makes_unless IsStep (int_eq z (pos 0)) rule.UnfitFor at z (λ e. h)
     step_there at (literal.Bool b) h = record { node = tt }
     step_there at (literal.Char c) h = record { node = tt }
     step_there at (literal.Set n) h = record { node = tt }

@@ -2,6 +2,7 @@
 use Rattle.std.proofs.Common.{◌≡◌, refl, List, [], ◌∷◌, Option, Some, None, Bool, true, false}
 use Rattle.ob_tree.specs.declared.pos.Pos.{Pos}
 use Rattle.std.specs.Prelude.{ℕ}
+use Rattle.ob_rules.specs.declared.broken.Rule.{Rule}
 use Rattle.ob_rules.specs.Judged.{Judged, Notes, sound, silent, breaks, noted, if_sound, paired, both, made, wants, also, unless, found_or, each_sound, ◌▷◌}
 use Rattle.law_typing.specs.Makes.{IfThere, Makes}
 
@@ -11,7 +12,7 @@ makes_sound P x h = record { node = h }
 pub makes_silent : {A : Type 0} (P : A → Type 0) → Makes P silent
 makes_silent P = record { node = tt }
 
-pub makes_breaks : {A : Type 0} (P : A → Type 0) (rule : ℕ) (at : Pos) → Makes P (breaks rule at)
+pub makes_breaks : {A : Type 0} (P : A → Type 0) (rule : Rule) (at : Pos) → Makes P (breaks rule at)
 makes_breaks P rule at = record { node = tt }
 
 pub makes_noted : {A : Type 0} (P : A → Type 0) (n : Notes) (j : Judged A) → Makes P j → Makes P (noted n j)
@@ -35,19 +36,19 @@ paired_there P Q (Some x) (Some y) h k = (h, k)
 pub makes_both : {A B : Type 0} (P : A → Type 0) (Q : B → Type 0) (a : Judged A) (b : Judged B) → Makes P a → Makes Q b → Makes (λ p. P p.0 × Q p.1) (both a b)
 makes_both P Q a b h k = record { node = paired_there P Q a.node b.node h.node k.node }
 
-pub makes_wants : {A : Type 0} (P : A → Type 0) (b : Bool) (rule : ℕ) (at : Pos) (x : A) → (b ≡ true → P x) → Makes P (wants b rule at x)
+pub makes_wants : {A : Type 0} (P : A → Type 0) (b : Bool) (rule : Rule) (at : Pos) (x : A) → (b ≡ true → P x) → Makes P (wants b rule at x)
 makes_wants P true rule at x h = record { node = h refl }
 makes_wants P false rule at x h = record { node = tt }
 
-pub makes_also : {A : Type 0} (P : A → Type 0) (b : Bool) (rule : ℕ) (at : Pos) (j : Judged A) → (b ≡ false → Makes P j) → Makes P (also b rule at j)
+pub makes_also : {A : Type 0} (P : A → Type 0) (b : Bool) (rule : Rule) (at : Pos) (j : Judged A) → (b ≡ false → Makes P j) → Makes P (also b rule at j)
 makes_also P true rule at j h = record { node = tt }
 makes_also P false rule at j h = h refl
 
-pub makes_unless : {A : Type 0} (P : A → Type 0) (b : Bool) (rule : ℕ) (at : Pos) (x : A) → (b ≡ false → P x) → Makes P (unless b rule at x)
+pub makes_unless : {A : Type 0} (P : A → Type 0) (b : Bool) (rule : Rule) (at : Pos) (x : A) → (b ≡ false → P x) → Makes P (unless b rule at x)
 makes_unless P true rule at x h = record { node = tt }
 makes_unless P false rule at x h = record { node = h refl }
 
-pub makes_found : {A : Type 0} (P : A → Type 0) (rule : ℕ) (at : Pos) (o : Option A) → IfThere P o → Makes P (found_or rule at o)
+pub makes_found : {A : Type 0} (P : A → Type 0) (rule : Rule) (at : Pos) (o : Option A) → IfThere P o → Makes P (found_or rule at o)
 makes_found P rule at None h = record { node = tt }
 makes_found P rule at (Some x) h = record { node = h }
 

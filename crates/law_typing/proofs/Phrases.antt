@@ -22,6 +22,7 @@ use Rattle.ob_rules.specs.declared.meant.Meant.{Meant}
 use Rattle.ob_rules.specs.declared.meant.Meant.TheVariants as means
 use Rattle.ob_rules.specs.declared.meant.Where.TheVariants.{InExpression}
 use Rattle.ob_rules.specs.declared.values.Valued.{Valued}
+use Rattle.ob_rules.specs.declared.broken.Rule.TheVariants as rule
 use Rattle.ob_rules.specs.Judged.{Judged, sound, breaks, both, also, wants, made, each_sound, ◌▷◌}
 use Rattle.ob_rules.specs.Shapes.{Map}
 use Rattle.ob_rules.specs.Names.{Around, map_of, type_named}
@@ -75,10 +76,10 @@ module _ (program : Program) (Has : Formals → QName → Type 0) (unit : List �
   -- LITERALS
 
   pub integer_is : (at : Pos) (n : ℕ) → Ph (phrase at (λ u. integer_literal at n))
-  integer_is at n = phrase_is at (λ u. integer_literal at n) (λ u s. makes_wants (Is u) (nat_le n 2147483647) 9 at (constant (literal.Int (pos n))) (number_long n))
+  integer_is at n = phrase_is at (λ u. integer_literal at n) (λ u s. makes_wants (Is u) (nat_le n 2147483647) rule.LiteralTooLarge at (constant (literal.Int (pos n))) (number_long n))
 
   pub char_is : (at : Pos) (n : ℕ) → Ph (phrase at (λ u. char_literal at n))
-  char_is at n = phrase_is at (λ u. char_literal at n) (λ u s. makes_wants (Is u) (nat_le n 255) 9 at (constant (literal.Char n)) (code_small n))
+  char_is at n = phrase_is at (λ u. char_literal at n) (λ u s. makes_wants (Is u) (nat_le n 255) rule.LiteralTooLarge at (constant (literal.Char n)) (code_small n))
 
   pub string_is : (at : Pos) (text : List ℕ) → AreCharacters text → Ph (phrase at (λ u. sound (constant (text_value text))))
   string_is at text h = phrase_is at (λ u. sound (constant (text_value text))) (λ u s. record { node = text_is text h })
@@ -136,11 +137,11 @@ module _ (program : Program) (Has : Formals → QName → Type 0) (unit : List �
   tested : (u : Around) → Sc u → (at : Pos) (x : Judged Valued) (r : Phrase) (q : Option Qualident) → Makes (Is u) x → Ph r → Makes (Is u) (is_test u at x r q)
   tested u s at x r (Some q) h k =
       makes_then (λ p. Is u p.0 × IsKnown (map_of u) p.1) (Is u) (both (untestable (map_of u) at x) (type_named u q)) (λ p. test (map_of u) at p.0 p.1)
-      (makes_both (Is u) (IsKnown (map_of u)) (untestable (map_of u) at x) (type_named u q) (makes_then (Is u) (Is u) x (λ v. wants (testable (map_of u) v) 23 at v) h (λ v l. makes_wants (Is u) (testable (map_of u) v) 23 at v (λ e. l))) (type_named_is program Has unit held result u s q))
+      (makes_both (Is u) (IsKnown (map_of u)) (untestable (map_of u) at x) (type_named u q) (makes_then (Is u) (Is u) x (λ v. wants (testable (map_of u) v) rule.UnfitTypeTest at v) h (λ v l. makes_wants (Is u) (testable (map_of u) v) rule.UnfitTypeTest at v (λ e. l))) (type_named_is program Has unit held result u s q))
       (λ p l. test_is program Has unit held result (map_of u) s.forms at p.0 p.1 l.0)
   tested u s at x r None h k =
-      makes_then (λ p. Is u p.0 × Is u p.1) (Is u) (both x (r.value u)) (λ p. also (not (testable (map_of u) p.0)) 23 at (breaks 21 at)) (makes_both (Is u) (Is u) x (r.value u) h (k.value u s)) λ p l.
-      makes_also (Is u) (not (testable (map_of u) p.0)) 23 at (breaks 21 at) (λ e. record { node = tt })
+      makes_then (λ p. Is u p.0 × Is u p.1) (Is u) (both x (r.value u)) (λ p. also (not (testable (map_of u) p.0)) rule.UnfitTypeTest at (breaks rule.UnfitOperands at)) (makes_both (Is u) (Is u) x (r.value u) h (k.value u s)) λ p l.
+      makes_also (Is u) (not (testable (map_of u) p.0)) rule.UnfitTypeTest at (breaks rule.UnfitOperands at) (λ e. record { node = tt })
 
   compared : (u : Around) → Sc u → (o : Relation) (at : Pos) (x : Judged Valued) (r : Phrase) → Makes (Is u) x → Ph r → Makes (Is u) (both x (r.value u) ▷ λ p. related (map_of u) o at p.0 p.1)
   compared u s o at x r h k = makes_then (λ p. Is u p.0 × Is u p.1) (Is u) (both x (r.value u)) (λ p. related (map_of u) o at p.0 p.1) (makes_both (Is u) (Is u) x (r.value u) h (k.value u s)) (λ p l. related_is program Has unit held result (map_of u) s.forms o at p.0 p.1 l.0 l.1)

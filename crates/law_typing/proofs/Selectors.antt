@@ -20,6 +20,7 @@ use Rattle.ob_rules.specs.Shapes.{Member, AField, AMethod, member, pointed, is_h
 use Rattle.ob_rules.specs.Names.{Around, map_of, type_named}
 use Rattle.ob_rules.specs.declared.entity.Received.{Received}
 use Rattle.ob_rules.specs.declared.meant.Chosen.{Chosen}
+use Rattle.ob_rules.specs.declared.broken.Rule.TheVariants as rule
 use Rattle.ob_types.specs.declared.desc.Receiver.{Receiver}
 use Rattle.ob_types.specs.declared.desc.Receiver.TheVariants as receiver
 use Rattle.ob_rules.specs.Calls.{call_procedure, call_variable, call_out, call_bound}
@@ -176,7 +177,7 @@ module _ (program : Program) (Has : Formals → QName → Type 0) (unit : List �
   as_call_is : (w : Where) (x : Judged Valued) → Makes (CalledIs program Has unit held result (map_of u) w) x → Makes (M w) (as_call x)
   as_call_is w x h = makes_then (CalledIs program Has unit held result (map_of u) w) (M w) x (λ v. sound (means.Call v)) h (λ v k. record { node = k })
 
-  guard_there : (w : Where) (p : Place) (t : TypeRef) (at : Pos) (o : Option (Guarded × QName)) → P p → IsKnown (map_of u) t → guard_of (map_of u) p t ≡ o → Makes (M w) (found_or 23 at o ▷ λ g. sound (means.Place (guarded_by p g t at true)))
+  guard_there : (w : Where) (p : Place) (t : TypeRef) (at : Pos) (o : Option (Guarded × QName)) → P p → IsKnown (map_of u) t → guard_of (map_of u) p t ≡ o → Makes (M w) (found_or rule.UnfitTypeTest at o ▷ λ g. sound (means.Place (guarded_by p g t at true)))
   guard_there w p t at None h d e = record { node = tt }
   guard_there w p t at (Some g) h d e = record { node = (guarded_is program Has unit held result (map_of u) scoped.forms p g t at true h d e, λ r x f k. not_true (sym k ∙ or_true p.selected), guard_unguarded p g t at true) }
 
@@ -197,7 +198,7 @@ module _ (program : Program) (Has : Formals → QName → Type 0) (unit : List �
 
   other_is : (w v : Where) (start at : Pos) (m : Meant) (ps : List Phrase) (q : Option Qualident) (a b c : Bool) → M v m → ArePhrases program Has unit held result ps → Makes (M w) (other_round u w start at m ps q a b c)
   other_is w v start at m ps q true b c h k = call_meant_is w v start m ps h k
-  other_is w v start at m ps (Some q) false true c h k = makes_then (IsKnown (map_of u)) (M w) (type_named u q) (λ t. breaks 23 at) (type_named_is program Has unit held result u scoped q) (λ t d. record { node = tt })
+  other_is w v start at m ps (Some q) false true c h k = makes_then (IsKnown (map_of u)) (M w) (type_named u q) (λ t. breaks rule.UnfitTypeTest at) (type_named_is program Has unit held result u scoped q) (λ t d. record { node = tt })
   other_is w v start at m ps (Some q) false false c h k = record { node = tt }
   other_is w v start at m ps None false b true h k = call_meant_is w v start m ps h k
   other_is w v start at m ps None false b false h k = record { node = tt }

@@ -20,6 +20,7 @@ use Rattle.ob_rules.specs.declared.meant.Where.{Where}
 use Rattle.ob_rules.specs.declared.meant.Where.TheVariants.{AsStatement, Elsewhere}
 use Rattle.ob_rules.specs.declared.values.Place.{Place}
 use Rattle.ob_rules.specs.declared.values.Valued.{Valued}
+use Rattle.ob_rules.specs.declared.broken.Rule.TheVariants as rule
 use Rattle.ob_rules.specs.Judged.{both, wants, ◌▷◌}
 use Rattle.ob_rules.specs.Shapes.{signature_at}
 use Rattle.ob_rules.specs.Names.{Around, map_of}
@@ -63,7 +64,7 @@ module _ (program : Program) (Has : Formals → QName → Type 0) (unit : List �
     -- ASSIGNMENTS
 
     target_is : (start : Pos) (m : Meant) → M Elsewhere m → Makes P (target start m)
-    target_is start (means.Place p) h = makes_unless P p.read_only 26 start p (λ e. h.0)
+    target_is start (means.Place p) h = makes_unless P p.read_only rule.NotChangeable start p (λ e. h.0)
     target_is start (means.Constant c) h = record { node = tt }
     target_is start (means.Procedure q t) h = record { node = tt }
     target_is start (means.Bound c) h = record { node = tt }
@@ -119,12 +120,12 @@ module _ (program : Program) (Has : Formals → QName → Type 0) (unit : List �
     IsCondition t = typed.ExprOk program Has unit held result (expr_view t) boolean
 
     pub condition_is : (x : Phrase) → PhraseIs program Has unit held result x → Makes IsCondition (condition u x)
-    condition_is x h = makes_then Is IsCondition (x.value u) (λ v. wants (is (map_of u) basic.Boolean v) 32 x.start (tree v)) (h.value u s) (λ v k. makes_wants IsCondition (is (map_of u) basic.Boolean v) 32 x.start (tree v) (λ e. basic_fits program Has unit held result (map_of u) s.forms v basic.Boolean refl k e))
+    condition_is x h = makes_then Is IsCondition (x.value u) (λ v. wants (is (map_of u) basic.Boolean v) rule.NotBoolean x.start (tree v)) (h.value u s) (λ v k. makes_wants IsCondition (is (map_of u) basic.Boolean v) rule.NotBoolean x.start (tree v) (λ e. basic_fits program Has unit held result (map_of u) s.forms v basic.Boolean refl k e))
 
     -- EXIT AND RETURN
 
     pub exit_is : (at : Pos) → Makes (Ss u.in_loop) (exit u at)
-    exit_is at = makes_wants (Ss u.in_loop) u.in_loop 35 at (stmt.Exit ∷ []) (λ e. (subst (λ y. typed.StmtOk program Has unit held result y u.in_loop) (sym view_exit) e, tt))
+    exit_is at = makes_wants (Ss u.in_loop) u.in_loop rule.MisplacedExit at (stmt.Exit ∷ []) (λ e. (subst (λ y. typed.StmtOk program Has unit held result y u.in_loop) (sym view_exit) e, tt))
 
     returned_ok : (o : Option TypedExpr) → typed.ReturnOk program Has unit held result (option_map expr_view o) result → Ok (stmt.Return o) u.in_loop
     returned_ok o h = subst (λ y. typed.StmtOk program Has unit held result y u.in_loop) (sym (view_return o)) h
@@ -135,7 +136,7 @@ module _ (program : Program) (Has : Formals → QName → Type 0) (unit : List �
 
     value_returned : (at : Pos) (r : Option TypeRef) (x : Valued) → r ≡ result → ResultIs program r → Is x → Makes (Ss u.in_loop) (returned (map_of u) at r x)
     value_returned at None x e d h = record { node = tt }
-    value_returned at (Some t) x e d h = makes_wants (Ss u.in_loop) (fits (map_of u) t x) 36 at (stmt.Return (Some (tree x)) ∷ []) (λ f. (returned_ok (Some (tree x)) (subst (typed.ReturnOk program Has unit held result (Some (expr_view (tree x)))) e (scalar_fits program Has unit held result (map_of u) s.forms t x d.0 h f d.1, d.1)), tt))
+    value_returned at (Some t) x e d h = makes_wants (Ss u.in_loop) (fits (map_of u) t x) rule.UnfitReturn at (stmt.Return (Some (tree x)) ∷ []) (λ f. (returned_ok (Some (tree x)) (subst (typed.ReturnOk program Has unit held result (Some (expr_view (tree x)))) e (scalar_fits program Has unit held result (map_of u) s.forms t x d.0 h f d.1, d.1)), tt))
 
     pub return_is : (at : Pos) (o : Option Phrase) → IfThere (PhraseIs program Has unit held result) o → Makes (Ss u.in_loop) (return u at o)
     return_is at None h = nothing_returned at u.result s.result_is

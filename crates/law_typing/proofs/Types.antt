@@ -30,6 +30,7 @@ use Rattle.ob_rules.specs.declared.entity.Known.{Known}
 use Rattle.ob_rules.specs.declared.values.Place.{Place}
 use Rattle.ob_rules.specs.declared.values.Valued.{Valued}
 use Rattle.ob_rules.specs.declared.values.Valued.TheVariants as valued
+use Rattle.ob_rules.specs.declared.broken.Rule.TheVariants as rule
 use Rattle.ob_rules.specs.Judged.{◌▷◌}
 use Rattle.ob_rules.specs.Shapes.{Map, same_name, pointed, pointed_record, record_of, extends_record}
 use Rattle.ob_rules.specs.Names.{Around, map_of, type_desc, out_string, find_name, is_out, shown_of, export_known, out_procedure, type_of_desc, out_type, type_in, type_of_entity, type_behind, unless_variable_is, unless_variable, type_by, type_named}
@@ -187,7 +188,7 @@ module _ (program : Program) (Has : Formals → QName → Type 0) (unit : List �
         typed_as (Some s) e = pointing (pointed_record map s) s e refl
 
     pub test_is : (at : Pos) (x : Valued) (t : TypeRef) → Is x → Makes Is (test map at x t)
-    test_is at x t h = makes_found Is 23 at (test_of map x t (record_if map (values.type_in (type x)))) (test_of_is x t h)
+    test_is at x t h = makes_found Is rule.UnfitTypeTest at (test_of map x t (record_if map (values.type_in (type x)))) (test_of_is x t h)
 
     -- in round brackets
     pub bracketed_is : (x : Valued) → Is x → Is (bracketed x)

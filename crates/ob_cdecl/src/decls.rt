@@ -14,7 +14,7 @@ use crate::contents::Contents;
 use ob_cdecl_scopes::{Imports, Scope};
 use ob_cdecl_type::{check_mark, is_module_level};
 use ob_cexpr::{check_constant, start_of};
-use ob_rules::{Entity, Notebook, Surroundings};
+use ob_rules::{Entity, Notebook, Rule, Surroundings};
 use ob_tree::{Expr, Ident, IdentDef, Mark, Pos};
 use ob_types::Value;
 use ob_types_trees::copy_value;
@@ -33,7 +33,7 @@ pub fn declare_new<E: Imports>(
     ensures noted { OnOk result (book.new ≡ book_after book.old (spec.twice (around_of E.types scope.old) x.now)) }
 {
     if scope.is_known_in_scope(&x.name) {
-        book.breaks(1, x.pos);
+        book.breaks(Rule::DeclaredTwice, x.pos);
         return Ok(());
     }
     scope.declare(alloc, x.name, what)
@@ -46,7 +46,7 @@ fn no_nil(book: &mut Notebook, at: Pos, value: Value) -> Option<Value>
 {
     match &value {
         Value::Nil => {
-            book.breaks(10, at);
+            book.breaks(Rule::NotConstant, at);
             None
         }
         Value::Bool(_) | Value::Char(_) | Value::Int(_) | Value::Set(_) | Value::Str(_) => Some(

@@ -11,7 +11,7 @@ ghost use Rattle.ob_cdecl.specs.Order.{one_import, import_added};
 use crate::decls::declare_new;
 use ob_cdecl_scopes::{Imports, Scope, Stack};
 use ob_cexpr_name::is_out;
-use ob_rules::{Entity, Notebook};
+use ob_rules::{Entity, Notebook, Rule};
 use ob_tree::{Ident, Import, List, Name};
 use std::alloc::{AllocError, Global};
 
@@ -51,7 +51,7 @@ fn import_declared<E: Imports>(
 {
     let target = target_of(item);
     let system = is_system(&target.name);
-    book.breaks_if(system, 5, target.pos);
+    book.breaks_if(system, Rule::ReservedModule, target.pos);
     declare_new(
         alloc,
         scope,
@@ -106,7 +106,7 @@ pub fn closing_judged(book: &mut Notebook, name: &Name, closing: &Ident)
 {
     book.breaks_if(
         !(closing.name.as_bytes() == name.as_bytes()),
-        4,
+        Rule::WrongClosingName,
         closing.pos,
     )
 }
@@ -115,6 +115,10 @@ pub fn closing_judged(book: &mut Notebook, name: &Name, closing: &Ident)
 pub fn name_judged(book: &mut Notebook, name: &Ident, closing: &Ident)
     ensures { book.new ≡ book_after book.old (spec.name_judged name.now closing.now) }
 {
-    book.breaks_if(is_out(&name.name) || is_system(&name.name), 5, name.pos);
+    book.breaks_if(
+        is_out(&name.name) || is_system(&name.name),
+        Rule::ReservedModule,
+        name.pos,
+    );
     closing_judged(book, &name.name, closing)
 }

@@ -6,6 +6,7 @@ use Rattle.ob_types.specs.declared.desc.Method.{Method}
 use Rattle.ob_types.specs.declared.typed.TypedType.{TypedType}
 use Rattle.ob_rules.specs.declared.entity.Bound.{Bound}
 use Rattle.ob_rules.specs.declared.notes.Notebook.{Notebook}
+use Rattle.ob_rules.specs.declared.broken.Rule.TheVariants as rule
 use Rattle.ob_rules.specs.Books.{book_after}
 use Rattle.ob_rules.specs.Judged.{Notes, joined, no_notes, notes_if, broken_at}
 use Rattle.ob_rules.specs.Shapes.{Map, Member, AField, AMethod, member, same_name}
@@ -38,7 +39,7 @@ later_more : (n s t m : Notes) → Later n s t → Later n (joined s m) (joined 
 later_more n s t m h b = sym (after_joined b s m) ∙ ap (λ k. book_after k m) (h b) ∙ after_joined (book_after b n) t m
 
 redefined_follows : (s : Binding) (t n : Notes) (h : Head) (b : BoundAs) → Later n s.notes t → (d : Bool) → Follows n (redefined d s h b) (redefined d (record s { notes = t }) h b)
-redefined_follows s t n h b l true = record { notes = joined t (broken_at 20 h.at); same = refl; noted = later_more n s.notes t (broken_at 20 h.at) l }
+redefined_follows s t n h b l true = record { notes = joined t (broken_at rule.UnmatchedRedefinition h.at); same = refl; noted = later_more n s.notes t (broken_at rule.UnmatchedRedefinition h.at) l }
 redefined_follows s t n h b l false = record { notes = t; same = refl; noted = l }
 
 method_follows : (u : Around) (x : List TypedType) (y : List Bound) (map : Map) (s : Binding) (t n : Notes) (h : Head) (b : BoundAs) → Later n s.notes t → (q : QName) (m : Method) (d : Bool) → Follows n (bind_method d u map s h b q m) (bind_method d (record u { own = x; bound = y }) map (record s { notes = t }) h b q m)
@@ -47,7 +48,7 @@ method_follows u x y map s t n h b l q m false = redefined_follows s t n h b l _
 
 by_follows : (u : Around) (x : List TypedType) (y : List Bound) (map : Map) (s : Binding) (t n : Notes) (h : Head) (b : BoundAs) → Later n s.notes t → (m : Option Member) → Follows n (bind_by u map s h b m) (bind_by (record u { own = x; bound = y }) map (record s { notes = t }) h b m)
 by_follows u x y map s t n h b l None = record { notes = t; same = refl; noted = l }
-by_follows u x y map s t n h b l (Some (AField q f)) = record { notes = joined t (notes_if (not h.forward) 1 h.at); same = refl; noted = later_more n s.notes t (notes_if (not h.forward) 1 h.at) l }
+by_follows u x y map s t n h b l (Some (AField q f)) = record { notes = joined t (notes_if (not h.forward) rule.DeclaredTwice h.at); same = refl; noted = later_more n s.notes t (notes_if (not h.forward) rule.DeclaredTwice h.at) l }
 by_follows u x y map s t n h b l (Some (AMethod q m)) = method_follows u x y map s t n h b l q m (bytes_eq q.object b.owner.object && bytes_eq q.«module» u.unit)
 
 one_follows : (u : Around) (x : List TypedType) (y : List Bound) (s : Binding) (t n : Notes) (h : Head) → Later n s.notes t → (o : Option BoundAs) → Follows n (bind_one u s h o) (bind_one (record u { own = x; bound = y }) (record s { notes = t }) h o)

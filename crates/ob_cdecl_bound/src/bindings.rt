@@ -20,7 +20,7 @@ use ob_cdecl_field::Parameters;
 use ob_cdecl_heading::{BoundAs, Head, answer_of, is_same_kind};
 use ob_cdecl_scopes::{Imports, Scope};
 use ob_cexpr_name::{Member, find_member};
-use ob_rules::{Bound, Notebook, Surroundings};
+use ob_rules::{Bound, Notebook, Rule, Surroundings};
 use ob_tree::{List, Mark, Name, ObjName, QName};
 use ob_types::{Method, Signature, TypedType, Types, signatures_match};
 use ob_types_trees::{copy_name, copy_signature};
@@ -128,7 +128,7 @@ fn clashes<E: Imports>(
 {
     let known = bound_with(head, bound, None)?;
     scope.bind(alloc, known)?;
-    book.breaks_if(!head.forward, 1, head.at);
+    book.breaks_if(!head.forward, Rule::DeclaredTwice, head.at);
     Ok(())
 }
 
@@ -147,7 +147,7 @@ fn redefined<E: Imports>(
     if broken {
         let known = bound_with(head, bound, None)?;
         scope.bind(alloc, known)?;
-        book.breaks(20, head.at);
+        book.breaks(Rule::UnmatchedRedefinition, head.at);
         Ok(())
     } else {
         let known = bound_as(alloc, head, bound)?;

@@ -11,7 +11,7 @@ ghost use Rattle.ob_rules.specs.Headings.{is_method as names_method, member_of};
 ghost use Rattle.ob_rules.specs.Shapes.{record_of as record_at};
 
 use ob_cexpr_name::{Member, find_member, record_of};
-use ob_rules::{Later, Notebook};
+use ob_rules::{Later, Notebook, Rule};
 use ob_tree::{Ident, Name, QName};
 use ob_types::{TypeRef, Types};
 use std::alloc::{AllocError, Global};
@@ -69,7 +69,7 @@ fn field_judged<T: Types>(
         } => Ok(()),
         Later::Inherits { field, base } => {
             let broken = inherits_method(alloc, types, field, base)?;
-            book.breaks_if(broken, 1, field.pos);
+            book.breaks_if(broken, Rule::DeclaredTwice, field.pos);
             Ok(())
         }
     }

@@ -15,7 +15,7 @@ ghost use Rattle.ob_cdecl_bound.specs.Told.{at_notes, Told, left_pointers, base_
 
 use ob_cdecl_scopes::{Imports, Scope, Stack};
 use ob_cexpr_name::{is_array, is_held, is_record};
-use ob_rules::{Later, Notebook, Surroundings};
+use ob_rules::{Later, Notebook, Rule, Surroundings};
 use ob_types::{TypeRef, Types, target_within};
 use std::alloc::{AllocError, Global};
 
@@ -117,7 +117,7 @@ fn note_wrong(book: &mut Notebook, wrong: bool, left: &Later)
                 at,
                 base: _,
                 inline: _,
-            } => book.breaks(15, *at),
+            } => book.breaks(Rule::UnfitPointerBase, *at),
             Later::Inherits { field: _, base: _ } => {}
         }
     }

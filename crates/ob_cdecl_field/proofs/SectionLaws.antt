@@ -10,12 +10,14 @@ use Rattle.ob_types.specs.declared.types.TypeRef.{TypeRef}
 use Rattle.ob_types.specs.declared.typed.TypedType.{TypedType}
 use Rattle.ob_types.specs.declared.typed.TypedParameter.{TypedParameter}
 use Rattle.ob_rules.specs.declared.broken.Broken.{Broken}
+use Rattle.ob_rules.specs.declared.broken.Rule.{Rule}
 use Rattle.ob_rules.specs.declared.entity.Known.{Known}
 use Rattle.ob_rules.specs.declared.notes.Notebook.{Notebook}
-use Rattle.ob_rules.specs.Judged.{Judged, Notes, before, earlier, least, joined, paired, if_sound, sound, made}
+use Rattle.ob_rules.specs.Judged.{Judged, Notes, number_of, before, earlier, least, joined, paired, if_sound, sound, made}
 use Rattle.ob_rules.specs.Books.{book_after}
 use Rattle.ob_rules.specs.Names.{Around}
 use Rattle.ob_rules.specs.Types.{Named, Typing, Parameters, WrittenSection, mode_of, new_name, twice_if, knows, parameter_as, with_notes, with_types, declare_all, parameters_of, parameters_joined, sections}
+use Rattle.ob_rules.proofs.RuleLaws.{same_number}
 use Rattle.ob_rules.proofs.Least.{least_append}
 use Rattle.ob_rules.proofs.BookLaws.{after_none, after_joined}
 use Rattle.ob_cdecl_field.specs.ParameterMakes.{names_declared, behind_names, no_parameters, join_parameters, section_typing, behind_section}
@@ -74,12 +76,15 @@ same_line a b e f = grind (arith, nat_tests)
 same_col : (a b : Broken) → before a b ≡ false → before b a ≡ false → a.pos.col ≡ b.pos.col
 same_col a b e f = grind (arith, nat_tests)
 
+same_told : (a b : Broken) → before a b ≡ false → before b a ≡ false → number_of a.rule ≡ number_of b.rule
+same_told a b e f = grind (arith, nat_tests)
+
 same_rule : (a b : Broken) → before a b ≡ false → before b a ≡ false → a.rule ≡ b.rule
-same_rule a b e f = grind (arith, nat_tests)
+same_rule a b e f = same_number a.rule b.rule (same_told a b e f)
 
 same_broken : (a b : Broken) → before a b ≡ false → before b a ≡ false → a ≡ b
 same_broken a b e f =
-    let put : ℕ → ℕ → ℕ → Broken = λ r l c. record { rule = r; «pos» = record { line = l; col = c } } in
+    let put : Rule → ℕ → ℕ → Broken = λ r l c. record { rule = r; «pos» = record { line = l; col = c } } in
     ap (λ r. put r a.pos.line a.pos.col) (same_rule a b e f) ∙ ap (λ l. put b.rule l a.pos.col) (same_line a b e f) ∙ ap (λ c. put b.rule b.pos.line c) (same_col a b e f)
 
 not_both : (a b : Broken) → before a b ≡ true → before b a ≡ true → ⊥

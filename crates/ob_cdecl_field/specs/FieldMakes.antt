@@ -8,6 +8,7 @@ use Rattle.ob_rules.specs.Names.{Around, map_of, is_among}
 use Rattle.ob_cdecl_field.specs.declared.fields.Fields.{Fields as Made}
 use Rattle.ob_tree.specs.declared.ident.Mark.{Mark}
 use Rattle.ob_tree.specs.declared.ident.Mark.TheVariants as mark
+use Rattle.ob_rules.specs.declared.broken.Rule.TheVariants as rule
 use Rattle.ob_rules.specs.Types.{Typing, WrittenFields, with_fields, first_name, field_name, typed_as, record_desc, Fields, fields_of, fields_joined, marked, member_in, record_in}
 
 -- the fields of one list, in order
@@ -16,7 +17,7 @@ fields_in u base before ds t = each_sound (fields_of u base before ds t)
 
 -- a field, but for what is judged later
 abbrev pub field_marked : Around → Option (Option TypeRef) → List (List ℕ) → IdentDef → TypeRef → Judged Field
-field_marked u base before d t = marked u true d ▷ λ m. unless (is_among d.ident.name before || is_some (member_in (map_of u) (record_in (map_of u) base) d.ident.name)) 1 d.ident.pos (record { name = d.ident.name; mark = m; place = 0; of = t })
+field_marked u base before d t = marked u true d ▷ λ m. unless (is_among d.ident.name before || is_some (member_in (map_of u) (record_in (map_of u) base) d.ident.name)) rule.DeclaredTwice d.ident.pos (record { name = d.ident.name; mark = m; place = 0; of = t })
 
 -- those so far and the rest, where all are sound
 abbrev pub finish : Bool → List Field → Option (List Field) → Option (List Field)

@@ -17,7 +17,7 @@ use crate::made::{Typed, typed_as};
 use crate::marks::check_mark;
 use ob_cdecl_scopes::{Imports, Scope, Stack};
 use ob_cexpr_name::{find_member, record_of as record_named};
-use ob_rules::{Later, Notebook, Surroundings};
+use ob_rules::{Later, Notebook, Rule, Surroundings};
 use ob_tree::{CompactName, IdentDef, List, Mark, Name, ObjName, QName};
 use ob_types::{Desc, Field, RecordDesc, TypeRef, TypedType};
 use ob_types_trees::copy_type;
@@ -90,7 +90,7 @@ fn field_of<E: Imports>(
             let twice = before.has(d.ident.name.as_bytes()) || inherited;
             Ok(book.unless(
                 twice,
-                1,
+                Rule::DeclaredTwice,
                 d.ident.pos,
                 Field {
                     name: d.ident.name,

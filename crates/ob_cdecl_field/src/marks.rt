@@ -8,7 +8,7 @@ ghost use Rattle.ob_rules.specs.Books.{book_after};
 ghost use Rattle.ob_rules.specs.Types as spec;
 
 use ob_cdecl_scopes::{Imports, Scope};
-use ob_rules::{Notebook, Surroundings};
+use ob_rules::{Notebook, Rule, Surroundings};
 use ob_tree::{IdentDef, Mark};
 
 /// Whether the innermost scope is the module's.
@@ -32,7 +32,7 @@ fn mark_of(book: &mut Notebook, level: bool, minus: bool, d: &IdentDef) -> Optio
             if level && minus {
                 Some(Mark::ReadOnly)
             } else {
-                book.breaks(6, d.mark_pos);
+                book.breaks(Rule::MisplacedMark, d.mark_pos);
                 None
             }
         }
@@ -40,7 +40,7 @@ fn mark_of(book: &mut Notebook, level: bool, minus: bool, d: &IdentDef) -> Optio
             if level {
                 Some(Mark::Full)
             } else {
-                book.breaks(6, d.mark_pos);
+                book.breaks(Rule::MisplacedMark, d.mark_pos);
                 None
             }
         }

@@ -12,7 +12,7 @@ ghost use Rattle.ob_cdecl_field.specs.ParameterMakes.{parameter_entity, names_de
 
 use ob_cdecl_scopes::{Imports, Scope};
 use ob_cexpr_name::passing_of;
-use ob_rules::{Entity, Notebook, Surroundings};
+use ob_rules::{Entity, Notebook, Rule, Surroundings};
 use ob_tree::{CompactName, Ident};
 use ob_types::{Mode, TypeRef, Variable};
 use ob_types_trees::copy_type;
@@ -30,7 +30,7 @@ pub fn mode_of(is_var: bool) -> Mode
 fn note_twice<E: Imports>(scope: &Scope<'_, E>, book: &mut Notebook, x: &Ident)
     ensures { book.new ≡ book_after book.old (spec.new_name (around_of E.types scope.now) x.now) }
 {
-    book.breaks_if(scope.is_known_in_scope(&x.name), 1, x.pos)
+    book.breaks_if(scope.is_known_in_scope(&x.name), Rule::DeclaredTwice, x.pos)
 }
 
 // What a parameter of that type stands for, none of a type that breaks a rule.

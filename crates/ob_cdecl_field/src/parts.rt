@@ -15,7 +15,7 @@ use crate::made::Typed;
 use crate::nodes::first_of;
 use ob_cdecl_scopes::{Imports, Scope};
 use ob_cexpr_name::{is_array, is_open, is_record, record_of, type_named};
-use ob_rules::{Notebook, Surroundings};
+use ob_rules::{Notebook, Rule, Surroundings};
 use ob_tree::{Ident, List, Pos, Qualident};
 use ob_types::TypeRef;
 use std::alloc::{AllocError, Global};
@@ -33,7 +33,7 @@ fn named_typing<E: Imports>(
     ensures noted { book.new ≡ book_after book.old (spec.named_typing (around_of E.types scope.now) at open_ok of).notes }
 {
     if !open_ok && is_open(scope, &of) {
-        book.breaks(13, at);
+        book.breaks(Rule::MisplacedOpenArray, at);
         return None;
     }
     Some(Typed {
@@ -72,7 +72,7 @@ fn base_of<E: Imports>(
     if is_record(scope, &of) {
         Some(of)
     } else {
-        book.breaks(14, at);
+        book.breaks(Rule::UnfitBase, at);
         None
     }
 }
@@ -122,7 +122,7 @@ fn result_fits<E: Imports>(
     ensures noted { book.new ≡ book_after book.old (spec.result_fits (around_of E.types scope.now) at of).notes }
 {
     if is_array(scope, &of) || is_record(scope, &of) {
-        book.breaks(17, at);
+        book.breaks(Rule::StructuredResult, at);
         None
     } else {
         Some(Some(of))

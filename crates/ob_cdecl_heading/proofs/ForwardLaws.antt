@@ -3,6 +3,7 @@ use Rattle.std.proofs.Common.{◌≡◌, ℕ, zero, suc, ◌+◌, ◌<◌, ◌�
 use Rattle.std.specs.List.{find}
 use Rattle.std.specs.Option.{option_map}
 use Rattle.ob_rules.specs.declared.notes.Notebook.{Notebook}
+use Rattle.ob_rules.specs.declared.broken.Rule.TheVariants as rule
 use Rattle.ob_rules.specs.Books.{book_after}
 use Rattle.ob_rules.specs.Judged.{Notes, joined, no_notes, notes_if}
 use Rattle.ob_rules.specs.Shapes.{Map}
@@ -52,7 +53,7 @@ bare_forward : (types : Map) (all : List Head) (f : Head) → forward_if f.forwa
 bare_forward types all f = go f.forward
   where
     go : (b : Bool) → forward_if b types (map bare all) (bare f) ≡ forward_if b types all f
-    go true = ap (λ o. notes_if (forward_broken types (bare f) o) 18 f.at) (bare_answer f all) ∙ ap (λ b. notes_if b 18 f.at) (bare_broken types f (find (answers f) all))
+    go true = ap (λ o. notes_if (forward_broken types (bare f) o) rule.UnmatchedForward f.at) (bare_answer f all) ∙ ap (λ b. notes_if b rule.UnmatchedForward f.at) (bare_broken types f (find (answers f) all))
     go false = refl
 
 bare_forwards : (types : Map) (all hs : List Head) → forwards_judged types (map bare all) (map bare hs) ≡ forwards_judged types all hs

@@ -11,6 +11,7 @@ use Rattle.ob_tree.specs.declared.ident.Mark.{Mark}
 use Rattle.ob_tree.specs.declared.decl.Heading.{Heading}
 use Rattle.ob_rules.specs.declared.entity.Known.{Known}
 use Rattle.ob_rules.specs.declared.notes.Notebook.{Notebook}
+use Rattle.ob_rules.specs.declared.broken.Rule.TheVariants as rule
 use Rattle.ob_rules.specs.Books.{book_after, empty_book}
 use Rattle.ob_rules.specs.Judged.{Notes, Judged, no_notes, joined, broken_at, both, paired}
 use Rattle.ob_rules.specs.Names.{Around}
@@ -177,13 +178,13 @@ heads_added hs h forward n u v w heads head last twice e a k =
 
 -- WHERE IT IS DECLARED
 
-pub kept_again : (n : ℕ) (head : Kept) (s : Head) (u : Around) (book : Notebook) (behind : ℕ) → IsKept n head s → book ≡ book_after head.notes (broken_at 1 head.at) → behind ≡ length u.known → IsKept n (record head { parameters = None; notes = book; behind = behind }) (declared_head true s u)
+pub kept_again : (n : ℕ) (head : Kept) (s : Head) (u : Around) (book : Notebook) (behind : ℕ) → IsKept n head s → book ≡ book_after head.notes (broken_at rule.DeclaredTwice head.at) → behind ≡ length u.known → IsKept n (record head { parameters = None; notes = book; behind = behind }) (declared_head true s u)
 kept_again n head s u book behind k e f =
     let F : Head → Head = λ x. record x { parameters = None } in
-    let N : Head → Notebook = λ x. book_after (book_after empty_book s.notes) (broken_at 1 x.at) in
-    let M : Notebook → Notebook = λ x. book_after x (broken_at 1 head.at) in
+    let N : Head → Notebook = λ x. book_after (book_after empty_book s.notes) (broken_at rule.DeclaredTwice x.at) in
+    let M : Notebook → Notebook = λ x. book_after x (broken_at rule.DeclaredTwice head.at) in
     let p = ap F k.same in
-    let q = e ∙ ap M k.notes ∙ ap N k.same ∙ after_joined empty_book s.notes (broken_at 1 s.at) in
+    let q = e ∙ ap M k.notes ∙ ap N k.same ∙ after_joined empty_book s.notes (broken_at rule.DeclaredTwice s.at) in
     record { same = p; notes = q; behind = f; scope = k.scope }
 
 pub kept_anew : (n : ℕ) (head : Kept) (s : Head) (u : Around) (behind : ℕ) → IsKept n head s → behind ≡ length u.known → IsKept n (record head { behind = behind }) (declared_head false s u)

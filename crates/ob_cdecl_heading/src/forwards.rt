@@ -13,7 +13,7 @@ ghost use Rattle.ob_cdecl_heading.specs.Answering.{alike, differs as differ};
 
 use crate::head::{BoundAs, Head};
 use ob_cdecl_field::Parameters;
-use ob_rules::Notebook;
+use ob_rules::{Notebook, Rule};
 use ob_tree::Name;
 use ob_types::{Receiver, Types, is_same_at, signatures_match};
 use std::alloc::{AllocError, Global};
@@ -145,7 +145,11 @@ fn forward_if<T: Types>(types: &T, book: &mut Notebook, heads: &[Head], head: &H
     ensures { book.new ≡ book_after book.old (spec.forward_if head.now.forward (T.types types.now) (map seen heads.now) (seen head.now)) }
 {
     if head.forward {
-        book.breaks_if(is_broken(types, head, answer_of(heads, head)), 18, head.at);
+        book.breaks_if(
+            is_broken(types, head, answer_of(heads, head)),
+            Rule::UnmatchedForward,
+            head.at,
+        );
     }
 }
 

@@ -21,7 +21,7 @@ use crate::owner::{know_receiver, owner_if};
 use ob_cdecl_field::{Parameters, add_types, check_mark};
 use ob_cdecl_scopes::{Imports, Inside, Scope};
 use ob_cdecl_type::check_parameters;
-use ob_rules::{Entity, Known, Notebook, Surroundings};
+use ob_rules::{Entity, Known, Notebook, Rule, Surroundings};
 use ob_tree::{CompactName, Heading, Ident, Mark, Name, ObjName, QName, Receiver};
 use ob_types_trees::copy_signature;
 use std::alloc::{AllocError, Global};
@@ -338,7 +338,7 @@ fn head_again(head: Head, behind: usize) -> Head
 {
     let mut again = head;
     again.parameters = None;
-    again.notes.breaks(1, again.at);
+    again.notes.breaks(Rule::DeclaredTwice, again.at);
     again.behind = behind;
     again
 }

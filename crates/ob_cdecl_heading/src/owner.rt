@@ -16,7 +16,7 @@ use crate::head::BoundAs;
 use ob_cdecl_field::is_module_level;
 use ob_cdecl_scopes::{Imports, Scope};
 use ob_cexpr_name::{is_held, pointed, pointed_record, record_of, type_named};
-use ob_rules::{Entity, Notebook, Surroundings};
+use ob_rules::{Entity, Notebook, Rule, Surroundings};
 use ob_tree::{CompactName, Ident, Pos, QName, Qualident, Receiver};
 use ob_types::{Passing, Receiver as Kind, TypeRef, Types, Variable};
 use ob_types_trees::{copy_name, copy_type};
@@ -125,7 +125,7 @@ fn bound_to(
             if quiet {
                 return None;
             }
-            book.breaks(19, at);
+            book.breaks(Rule::UnfitReceiver, at);
             None
         }
     }

@@ -10,7 +10,7 @@ ghost use Rattle.ob_rules.specs.Types as spec;
 
 use ob_cdecl_scopes::{Imports, Scope};
 use ob_cexpr::{check_constant, start_of};
-use ob_rules::Notebook;
+use ob_rules::{Notebook, Rule};
 use ob_tree::{Expr, Pos};
 use ob_types::Value;
 use std::alloc::{AllocError, Global};
@@ -25,12 +25,12 @@ fn length_of(book: &mut Notebook, at: Pos, value: &Value) -> Option<u32>
             if *n >= 1 {
                 Some(n.cast_unsigned())
             } else {
-                book.breaks(12, at);
+                book.breaks(Rule::UnfitLength, at);
                 None
             }
         }
         Value::Bool(_) | Value::Char(_) | Value::Set(_) | Value::Str(_) | Value::Nil => {
-            book.breaks(12, at);
+            book.breaks(Rule::UnfitLength, at);
             None
         }
     }

@@ -15,7 +15,7 @@ ghost use Rattle.ob_cdecl_type.specs.Nested.{later_named, pointer_later};
 use ob_cdecl_field::{Typed, add_types, typed_as};
 use ob_cdecl_scopes::{Imports, Scope};
 use ob_cexpr_name::{is_array, is_pointer, is_record};
-use ob_rules::{Later, Notebook, Surroundings};
+use ob_rules::{Later, Notebook, Rule, Surroundings};
 use ob_tree::{CompactName, Ident, List, Mark, ObjName, Pos, QName};
 use ob_types::{Desc, TypeRef, TypedType};
 use ob_types_trees::copy_type;
@@ -84,7 +84,7 @@ fn base_judged(
         })?;
         return Ok(Some(t));
     }
-    book.breaks(15, at);
+    book.breaks(Rule::UnfitPointerBase, at);
     Ok(None)
 }
 

@@ -26,7 +26,7 @@ use ob_cdecl_field::{
     result_of, section_known, section_name, start_of, typed_as, with_result,
 };
 use ob_cdecl_scopes::{Imports, Scope, Stack};
-use ob_rules::Notebook;
+use ob_rules::{Notebook, Rule};
 use ob_tree::{Expr, FieldList, FormalPars, Mark, Pos, Qualident, Section, TypeNode};
 use ob_types::{Desc, TypeRef};
 use std::alloc::{AllocError, Global};
@@ -204,7 +204,7 @@ fn open_array<E: Imports>(
     ensures stays { OnOk result (around_of E.types scope.new ≡ around_of E.types scope.old) }
 {
     if !open_ok || is_open_array(element) {
-        book.breaks(13, at);
+        book.breaks(Rule::MisplacedOpenArray, at);
         let _ = open_element(alloc, scope, book, name, mark, element)?;
         return Ok(None);
     }

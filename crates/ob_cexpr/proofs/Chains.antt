@@ -8,6 +8,7 @@ use Rattle.ob_tree.specs.declared.expr.Relation.TheVariants as relates
 use Rattle.ob_tree.specs.declared.expr.Tail.{Tail}
 use Rattle.ob_rules.specs.declared.notes.Notebook.{Notebook}
 use Rattle.ob_rules.specs.declared.values.Valued.{Valued}
+use Rattle.ob_rules.specs.declared.broken.Rule.TheVariants as rule
 use Rattle.ob_rules.specs.Judged.{Judged, Notes, joined, no_notes, noted, if_sound, both, paired, wants, also, breaks, ◌▷◌}
 use Rattle.ob_rules.specs.Books.{book_after}
 use Rattle.ob_rules.specs.Names.{Around, map_of}
@@ -92,13 +93,13 @@ relates_first u f j v k = related_first j.notes v.notes (if_sound (paired j.node
 
 untested_first : (m : Map) (at : Pos) (n : Notes) (o : Option Valued) (y own : Notes) (k : Notebook) → book_after k (joined (joined (untestable m at (record { node = o; notes = n })).notes y) own) ≡ book_after (book_after k n) (joined (joined (untestable m at (plain o)).notes y) own)
 untested_first m at n o y own k =
-    let w = (if_sound o (λ v. wants (testable m v) 23 at v)).notes in
+    let w = (if_sound o (λ v. wants (testable m v) rule.UnfitTypeTest at v)).notes in
     after_two k (joined n w) y own ∙ ap (λ b. book_after (book_after b y) own) (sym (after_joined k n w)) ∙ sym (after_two (book_after k n) w y own)
 
 test_first : (u : Around) (at : Pos) (r : Phrase) (q : Option Qualident) (j : Judged Valued) (k : Notebook) → book_after k (is_test u at j r q).notes ≡ book_after (book_after k j.notes) (is_test u at (plain j.node) r q).notes
 test_first u at r (Some q) j k =
     untested_first (map_of u) at j.notes j.node (type_named u q).notes (if_sound (paired (untestable (map_of u) at j).node (type_named u q).node) (λ p. test (map_of u) at p.0 p.1)).notes k
-test_first u at r None j k = relates_first u (λ p. also (not (testable (map_of u) p.0)) 23 at (breaks 21 at)) j (r.value u) k
+test_first u at r None j k = relates_first u (λ p. also (not (testable (map_of u) p.0)) rule.UnfitTypeTest at (breaks rule.UnfitOperands at)) j (r.value u) k
 
 relation_first : (u : Around) (op : Relation) (at : Pos) (r : Phrase) (j : Judged Valued) (k : Notebook) → book_after k (relation_of u op at j r).notes ≡ book_after (book_after k j.notes) (relation_of u op at (plain j.node) r).notes
 relation_first u relates.Is at r j k = test_first u at r r.name j k

@@ -10,6 +10,7 @@ use Rattle.ob_rules.specs.declared.values.Valued.{Valued}
 use Rattle.ob_rules.specs.declared.meant.Meant.{Meant}
 use Rattle.ob_rules.specs.declared.meant.Where.{Where}
 use Rattle.ob_rules.specs.declared.meant.Asked.TheVariants as asked
+use Rattle.ob_rules.specs.declared.broken.Rule.TheVariants as rule
 use Rattle.ob_rules.specs.Judged.{Judged, if_sound, also, breaks, each_sound, ◌▷◌}
 use Rattle.ob_rules.specs.Books.{book_after}
 use Rattle.ob_rules.specs.Names.{Around}
@@ -24,7 +25,7 @@ use Rattle.ob_cexpr.specs.Plain.{further_of}
 
 -- with parameters that are sound
 abbrev too_many : Where → Pos → List Valued → Judged Meant
-too_many w at xs = also (misplaced w true) 27 at (breaks 28 at)
+too_many w at xs = also (misplaced w true) rule.MisplacedCall at (breaks rule.UnfitPredeclaredParameters at)
 
 -- behind the first: these are judged already
 pub further_node : (u : Around) (w : Where) (at : Pos) (ps : List Phrase) (first : Option (Option TypeRef)) (t : Option TypeRef) (row : Option (List Valued)) (r : Option Meant)

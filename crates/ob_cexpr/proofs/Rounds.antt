@@ -13,6 +13,7 @@ use Rattle.ob_rules.specs.declared.meant.Meant.TheVariants as means
 use Rattle.ob_rules.specs.declared.meant.Where.{Where}
 use Rattle.ob_rules.specs.declared.meant.Asked.{Asked}
 use Rattle.ob_rules.specs.declared.meant.Asked.TheVariants as asked
+use Rattle.ob_rules.specs.declared.broken.Rule.TheVariants as rule
 use Rattle.ob_rules.specs.Judged.{Judged, Notes, joined, if_sound, also, each_sound, sound}
 use Rattle.ob_rules.specs.Books.{book_after}
 use Rattle.ob_rules.specs.Names.{Around, map_of}
@@ -86,7 +87,7 @@ only_one (y ∷ z ∷ zs) x h is = absurd (omega arith)
 
 -- with their one parameter, which comes to t
 abbrev extreme_with : Bool → Around → Where → Pos → Option TypeRef → Judged Meant
-extreme_with max u w at t = also (misplaced w true) 27 at (extreme_of max at t (basic_if (map_of u) t))
+extreme_with max u w at t = also (misplaced w true) rule.MisplacedCall at (extreme_of max at t (basic_if (map_of u) t))
 
 pub extreme_node : (max : Bool) (u : Around) (w : Where) (at : Pos) (xs : List Expr) (x : Expr) (t : Option (Option TypeRef)) (r : Option Meant) → length xs ≡ 1 → x ≡ get_or xs 0 x
     → t ≡ (type_parameter u (phrase_of x) (phrase_of x).name).node → r ≡ (if_sound t (extreme_with max u w at)).node → r ≡ (extreme_call max u w at (map phrase_of xs)).node

@@ -17,6 +17,7 @@ use Rattle.ob_rules.specs.declared.entity.Entity.{Entity}
 use Rattle.ob_rules.specs.declared.meant.Meant.{Meant}
 use Rattle.ob_rules.specs.declared.meant.Meant.TheVariants as means
 use Rattle.ob_rules.specs.declared.meant.Where.{Where}
+use Rattle.ob_rules.specs.declared.broken.Rule.TheVariants as rule
 use Rattle.ob_rules.specs.Judged.{Judged, Notes, joined, no_notes, broken_at, noted, if_sound, made, sound, silent, breaks, wants, ◌▷◌}
 use Rattle.ob_rules.specs.Books.{book_after}
 use Rattle.ob_rules.specs.Names.{Around, map_of, named}
@@ -39,8 +40,8 @@ into_node map at p i None = refl
 into_node map at p i (Some a) = refl
 
 into_noted : (map : Map) (at : Pos) (p : Place) (i : Judged Valued) (a : Option (Option ℕ × TypeRef)) (k : Notebook) → book_after k (index_into map at p i a).notes ≡ book_after (book_after k i.notes) (index_into map at p (plain i.node) a).notes
-into_noted map at p i None k = of_two k i.notes (broken_at 22 at)
-into_noted map at p i (Some a) k = of_two k i.notes (if_sound i.node (λ x. wants (is_integer map x) 22 at (indexed p at x a))).notes
+into_noted map at p i None k = of_two k i.notes (broken_at rule.UnfitSelector at)
+into_noted map at p i (Some a) k = of_two k i.notes (if_sound i.node (λ x. wants (is_integer map x) rule.UnfitSelector at (indexed p at x a))).notes
 
 by_node : (map : Map) (at : Pos) (i : Judged Valued) (o : Option Place) → (index_if o i (λ q. index_into map at q i (array_of map q.of))).node ≡ (index_if o (plain i.node) (λ q. index_into map at q (plain i.node) (array_of map q.of))).node
 by_node map at i None = refl
@@ -79,13 +80,13 @@ index_node map at i (means.Statement s) = refl
 
 pub index_noted : (map : Map) (at : Pos) (i : Judged Valued) (m : Meant) (k : Notebook) → book_after k (step_index map at i m).notes ≡ book_after (book_after k i.notes) (step_index map at (plain i.node) m).notes
 index_noted map at i (means.Place p) k = variable_noted map at i p k
-index_noted map at i (means.Constant v) k = of_two k i.notes (broken_at 22 at)
-index_noted map at i (means.Procedure n s) k = of_two k i.notes (broken_at 22 at)
-index_noted map at i (means.Bound c) k = of_two k i.notes (broken_at 22 at)
-index_noted map at i (means.Out o) k = of_two k i.notes (broken_at 22 at)
-index_noted map at i (means.Predeclared f) k = of_two k i.notes (broken_at 22 at)
-index_noted map at i (means.Call x) k = of_two k i.notes (broken_at 22 at)
-index_noted map at i (means.Statement s) k = of_two k i.notes (broken_at 22 at)
+index_noted map at i (means.Constant v) k = of_two k i.notes (broken_at rule.UnfitSelector at)
+index_noted map at i (means.Procedure n s) k = of_two k i.notes (broken_at rule.UnfitSelector at)
+index_noted map at i (means.Bound c) k = of_two k i.notes (broken_at rule.UnfitSelector at)
+index_noted map at i (means.Out o) k = of_two k i.notes (broken_at rule.UnfitSelector at)
+index_noted map at i (means.Predeclared f) k = of_two k i.notes (broken_at rule.UnfitSelector at)
+index_noted map at i (means.Call x) k = of_two k i.notes (broken_at rule.UnfitSelector at)
+index_noted map at i (means.Statement s) k = of_two k i.notes (broken_at rule.UnfitSelector at)
 
 -- an index behind what comes before
 pub index_step_node : (map : Map) (at : Pos) (i : Judged Valued) (m : Meant) (x : Option Valued) (r : Option Meant) → x ≡ i.node → r ≡ (step_index map at (plain x) m).node → r ≡ (step_index map at i m).node

@@ -7,6 +7,7 @@ use Rattle.ob_rules.specs.declared.values.Valued.{Valued}
 use Rattle.ob_rules.specs.declared.meant.ElementOf.{ElementOf}
 use Rattle.ob_rules.specs.declared.meant.Meant.{Meant}
 use Rattle.ob_rules.specs.declared.meant.Where.{Where}
+use Rattle.ob_rules.specs.declared.broken.Rule.TheVariants as rule
 use Rattle.ob_rules.specs.Operators.{set_of}
 use Rattle.ob_rules.specs.Expressions.{element_value, ranged_of}
 use Rattle.ob_rules.specs.Judged.{Judged, Notes, no_notes, noted, silent, breaks, if_sound, also, made, each_sound, ◌▷◌}
@@ -53,4 +54,4 @@ behind_front u w start bs (Some f) = through u w start (behind f.with_name bs) f
 
 -- MAX or MIN with further parameters, behind what the first comes to
 abbrev pub further_of : Around → Where → Pos → List Phrase → Option (Option TypeRef) → Judged Meant
-further_of u w at ps first = if_sound first (λ t. each_sound (values u ps) ▷ λ xs. also (misplaced w true) 27 at (breaks 28 at))
+further_of u w at ps first = if_sound first (λ t. each_sound (values u ps) ▷ λ xs. also (misplaced w true) rule.MisplacedCall at (breaks rule.UnfitPredeclaredParameters at))

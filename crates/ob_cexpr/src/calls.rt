@@ -11,7 +11,7 @@ use crate::designators::visit_arguments;
 use crate::predeclared::{check_extreme, check_parameters};
 use ob_cexpr_arguments::{Callable, Opened, called, open_round, params};
 use ob_cexpr_predeclared::{asked_first, asked_second, call_fit};
-use ob_rules::{Meant, Notebook, Surroundings, Where};
+use ob_rules::{Meant, Notebook, Rule, Surroundings, Where};
 use ob_tree::{Expr, Pos};
 use std::alloc::{AllocError, Global};
 
@@ -37,7 +37,7 @@ pub fn check_round<S: Surroundings>(
         Opened::Guard(meant) => Ok(meant),
         Opened::Nothing => {
             visit_arguments(alloc, here, book, arguments)?;
-            book.breaks(22, at);
+            book.breaks(Rule::UnfitSelector, at);
             Ok(None)
         }
         Opened::Call(callable) => check_call(alloc, here, book, place, start, callable, arguments),

@@ -11,6 +11,7 @@ use Rattle.ob_rules.specs.declared.meant.Meant.{Meant}
 use Rattle.ob_rules.specs.declared.meant.Asked.{Asked}
 use Rattle.ob_rules.specs.declared.meant.Asked.TheVariants as asked
 use Rattle.ob_rules.specs.declared.broken.Predeclared.{Predeclared}
+use Rattle.ob_rules.specs.declared.broken.Rule.TheVariants as rule
 use Rattle.ob_rules.specs.Judged.{Judged, breaks, wants, sound, ◌▷◌}
 use Rattle.ob_rules.specs.Books.{book_after}
 use Rattle.ob_rules.specs.Names.{Around, map_of}
@@ -39,7 +40,7 @@ value_by u at (Some m) v k h =
 
 var_by : (u : Around) (t : TypeRef) (p : Phrase) (o : Option (Around → Judged Meant)) (k : Notebook)
     → Leaves k (var_actual u t p o) (book_after k (argument_says u o (p.value u))) (var_actual u t (left_of p.start (argument_of u o (p.value u))) (meant_left (argument_of u o (p.value u))))
-var_by u t p None k = then_left (p.value u) _ (λ x. breaks 25 p.start) k _ (plain_left (p.value u) k)
+var_by u t p None k = then_left (p.value u) _ (λ x. breaks rule.UnfitParameter p.start) k _ (plain_left (p.value u) k)
 var_by u t p (Some m) k = then_left (m u) _ (meant_actual (map_of u) t p.start) k _ (plain_left (m u) k)
 
 pub actual_by : (u : Around) (how : Mode) (t : TypeRef) (p : Phrase) (k : Notebook) → p.value u ≡ by_meant u p.start p.meant (p.value u)
@@ -61,7 +62,7 @@ pub parameter_by : (u : Around) (a : Asked) (p : Phrase) (k : Notebook) → p.va
     → Leaves k (parameter u a p) (book_after k (argument_says u p.meant (p.value u))) (parameter u a (left_of p.start (argument_of u p.meant (p.value u))))
 parameter_by u asked.Value p k h = extra_by u p k h
 parameter_by u asked.Changed p k h = changed_by u p p.meant k
-parameter_by u asked.Constant p k h = then_left (p.value u) _ (λ x. wants (is_some (constant_in x)) 10 p.start x) k _ (extra_by u p k h)
+parameter_by u asked.Constant p k h = then_left (p.value u) _ (λ x. wants (is_some (constant_in x)) rule.NotConstant p.start x) k _ (extra_by u p k h)
 
 -- the parameters of a predeclared procedure, by what is asked of the first two
 pub values_asked : (u : Around) (ps : List Phrase) → values u ps ≡ parameters_asked u asked.Value asked.Value ps

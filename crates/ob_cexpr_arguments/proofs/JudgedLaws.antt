@@ -1,9 +1,10 @@
 -- What is left to say of a part.
-use Rattle.std.proofs.Common.{◌≡◌, refl, sym, ap, ◌∙◌, ℕ, Bool, true, false, Option, Some, None}
+use Rattle.std.proofs.Common.{◌≡◌, refl, sym, ap, ◌∙◌, Bool, true, false, Option, Some, None}
 use Rattle.ob_tree.specs.declared.pos.Pos.{Pos}
 use Rattle.ob_rules.specs.declared.notes.Notebook.{Notebook}
 use Rattle.ob_rules.specs.declared.values.Valued.{Valued}
 use Rattle.ob_rules.specs.declared.meant.Meant.TheVariants as means
+use Rattle.ob_rules.specs.declared.broken.Rule.{Rule}
 use Rattle.ob_rules.specs.Judged.{Judged, Notes, if_sound, made, sound, silent, also, ◌▷◌}
 use Rattle.ob_rules.specs.Designators.{as_call}
 use Rattle.ob_rules.specs.Books.{book_after}
@@ -32,7 +33,7 @@ silent_noted None k = sym (after_none k)
 silent_noted (Some x) k = sym (after_none k)
 
 -- what is judged, unless a rule is broken besides
-pub muted_node : {A : Type 0} (b : Bool) (rule : ℕ) (at : Pos) (n : Notes) (j : Judged A) (x r : Option A) → x ≡ j.node → r ≡ (also b rule at (record { node = x; notes = n })).node → r ≡ (muted b j).node
+pub muted_node : {A : Type 0} (b : Bool) (rule : Rule) (at : Pos) (n : Notes) (j : Judged A) (x r : Option A) → x ≡ j.node → r ≡ (also b rule at (record { node = x; notes = n })).node → r ≡ (muted b j).node
 muted_node true rule at n j x r ex er = er
 muted_node false rule at n j x r ex er = er ∙ ex
 

@@ -17,6 +17,7 @@ use Rattle.ob_rules.specs.declared.meant.Meant.TheVariants as means
 use Rattle.ob_rules.specs.declared.meant.Where.{Where}
 use Rattle.ob_rules.specs.declared.broken.Predeclared.{Predeclared}
 use Rattle.ob_rules.specs.declared.broken.Predeclared.TheVariants as pre
+use Rattle.ob_rules.specs.declared.broken.Rule.TheVariants as rule
 use Rattle.ob_rules.specs.Judged.{Judged, Notes, joined, broken_at, noted, notes_if, also, breaks, if_sound, silent, sound, each_sound, ◌▷◌}
 use Rattle.ob_rules.specs.Books.{book_after}
 use Rattle.ob_rules.specs.Names.{Around, map_of, type_named}
@@ -45,25 +46,25 @@ pub guarded_is : (u : Around) (w : Where) (start at : Pos) (m : Meant) (ps : Lis
 guarded_is u w start at m ps None = refl
 guarded_is u w start at m ps (Some q) = refl
 
-pub constant_is : (u : Around) (w : Where) (start at : Pos) (m : Meant) (ps : List Phrase) (q : Option Qualident) → other_round u w start at m ps q false true false ≡ misfit_or u at q (noted (visited u ps) (breaks 22 at))
+pub constant_is : (u : Around) (w : Where) (start at : Pos) (m : Meant) (ps : List Phrase) (q : Option Qualident) → other_round u w start at m ps q false true false ≡ misfit_or u at q (noted (visited u ps) (breaks rule.UnfitSelector at))
 constant_is u w start at m ps None = refl
 constant_is u w start at m ps (Some q) = refl
 
-pub nothing_is : (u : Around) (w : Where) (start at : Pos) (m : Meant) (ps : List Phrase) (q : Option Qualident) → other_round u w start at m ps q false false false ≡ noted (visited u ps) (breaks 22 at)
+pub nothing_is : (u : Around) (w : Where) (start at : Pos) (m : Meant) (ps : List Phrase) (q : Option Qualident) → other_round u w start at m ps q false false false ≡ noted (visited u ps) (breaks rule.UnfitSelector at)
 nothing_is u w start at m ps None = refl
 nothing_is u w start at m ps (Some q) = refl
 
 pub call_opens : (u : Around) (w : Where) (start at : Pos) (ps : List Phrase) (m : Meant) (x : Valued) (k : Notebook) → m ≡ means.Call x → Leaves k (step_round u w start at ps m) k (round_left u w start at ps opens.Nothing)
-call_opens u w start at ps m x k e = same_left (step_round u w start at ps m) (noted (visited u ps) (breaks 22 at)) (noted (visited u ps) (breaks 22 at)) k k (ap (λ n. step_round u w start at ps n) e ∙ nothing_is u w start at (means.Call x) ps (type_in_round u ps)) (refl, refl)
+call_opens u w start at ps m x k e = same_left (step_round u w start at ps m) (noted (visited u ps) (breaks rule.UnfitSelector at)) (noted (visited u ps) (breaks rule.UnfitSelector at)) k k (ap (λ n. step_round u w start at ps n) e ∙ nothing_is u w start at (means.Call x) ps (type_in_round u ps)) (refl, refl)
 
 pub statement_opens : (u : Around) (w : Where) (start at : Pos) (ps : List Phrase) (m : Meant) (x : StmtTree) (k : Notebook) → m ≡ means.Statement x → Leaves k (step_round u w start at ps m) k (round_left u w start at ps opens.Nothing)
-statement_opens u w start at ps m x k e = same_left (step_round u w start at ps m) (noted (visited u ps) (breaks 22 at)) (noted (visited u ps) (breaks 22 at)) k k (ap (λ n. step_round u w start at ps n) e ∙ nothing_is u w start at (means.Statement x) ps (type_in_round u ps)) (refl, refl)
+statement_opens u w start at ps m x k e = same_left (step_round u w start at ps m) (noted (visited u ps) (breaks rule.UnfitSelector at)) (noted (visited u ps) (breaks rule.UnfitSelector at)) k k (ap (λ n. step_round u w start at ps n) e ∙ nothing_is u w start at (means.Statement x) ps (type_in_round u ps)) (refl, refl)
 
 -- a guard that is judged whole
 pub misfit_opens : (u : Around) (at : Pos) (q : Option Qualident) (name : Qualident) (j : Judged Meant) (m : Option Meant) (k l : Notebook) → Some name ≡ q
-    → m ≡ (type_named u name ▷ λ t. breaks {A = Meant} 23 at).node → l ≡ book_after k (type_named u name ▷ λ t. breaks {A = Meant} 23 at).notes → Leaves k (misfit_or u at q j) l (plain m)
+    → m ≡ (type_named u name ▷ λ t. breaks {A = Meant} rule.UnfitTypeTest at).node → l ≡ book_after k (type_named u name ▷ λ t. breaks {A = Meant} rule.UnfitTypeTest at).notes → Leaves k (misfit_or u at q j) l (plain m)
 misfit_opens u at q name j m k l eq em el =
-    subst (λ (o : Option Qualident). Leaves k (misfit_or u at o j) l (plain m)) eq (whole_left (type_named u name ▷ λ t. breaks {A = Meant} 23 at) m k l em el)
+    subst (λ (o : Option Qualident). Leaves k (misfit_or u at o j) l (plain m)) eq (whole_left (type_named u name ▷ λ t. breaks {A = Meant} rule.UnfitTypeTest at) m k l em el)
 
 -- no type in the brackets
 pub else_opens : (u : Around) (at : Pos) (q : Option Qualident) (j : Judged Meant) (k : Notebook) → None ≡ q → Leaves k (misfit_or u at q j) k j
@@ -80,20 +81,20 @@ held_opens u w start at p ps q s o k eq e =
     subst (λ (r : Option Qualident). Leaves k (place_round u w start at p ps r s) k (round_left u w start at ps o)) eq (ap (λ j. j.node) e, ap (λ j. book_after k j.notes) e)
 
 -- a bound procedure
-also_left : (b : Bool) (at : Pos) (a : Notes) (j : Judged Valued) (k : Notebook) → Leaves k (also b 26 at (noted a j)) (book_after k (notes_if b 26 at)) (noted a (muted b j))
-also_left true at a j k = (refl, sym (after_joined k (broken_at 26 at) (joined a j.notes)))
+also_left : (b : Bool) (at : Pos) (a : Notes) (j : Judged Valued) (k : Notebook) → Leaves k (also b rule.NotChangeable at (noted a j)) (book_after k (notes_if b rule.NotChangeable at)) (noted a (muted b j))
+also_left true at a j k = (refl, sym (after_joined k (broken_at rule.NotChangeable at) (joined a j.notes)))
 also_left false at a j k = (refl, ap (λ b. book_after b (joined a j.notes)) (sym (after_none k)))
 
 abbrev is_wrong : Chosen → Bool
 is_wrong c = is_record_receiver c.method.receiver && ((receiver_place c).read_only && is_none c.base)
 
-sound_bound : (u : Around) (w : Where) (at : Pos) (c : Chosen) (ps : List Phrase) (b : Bool) (k : Notebook) → b ≡ is_wrong c → Leaves k (call_bound_sound true u w at c ps) (book_after k (notes_if b 26 at)) (call_left u w at ps (calls.Bound c b))
+sound_bound : (u : Around) (w : Where) (at : Pos) (c : Chosen) (ps : List Phrase) (b : Bool) (k : Notebook) → b ≡ is_wrong c → Leaves k (call_bound_sound true u w at c ps) (book_after k (notes_if b rule.NotChangeable at)) (call_left u w at ps (calls.Bound c b))
 sound_bound u w at c ps b k eb =
     let a = actuals u c.method.signature.params ps in
     let f = called_with w at c.method.signature (length ps) (λ xs. tree.Call (bound_callee c c.base) (receiver_actual c.method.receiver c ∷ xs) at c.method.signature.result) in
-    subst (λ (d : Bool). Leaves k (also d 26 at (a ▷ f)) (book_after k (notes_if b 26 at)) (noted a.notes (muted b (if_sound a.node f)))) eb (also_left b at a.notes (if_sound a.node f) k)
+    subst (λ (d : Bool). Leaves k (also d rule.NotChangeable at (a ▷ f)) (book_after k (notes_if b rule.NotChangeable at)) (noted a.notes (muted b (if_sound a.node f)))) eb (also_left b at a.notes (if_sound a.node f) k)
 
-pub bound_sound : (u : Around) (w : Where) (at : Pos) (c : Chosen) (ps : List Phrase) (t b : Bool) (k l : Notebook) → t ≡ nearest_sound u 201 (where_from c c.base) c.method.name → t ≡ true → b ≡ is_wrong c → l ≡ book_after k (notes_if b 26 at)
+pub bound_sound : (u : Around) (w : Where) (at : Pos) (c : Chosen) (ps : List Phrase) (t b : Bool) (k l : Notebook) → t ≡ nearest_sound u 201 (where_from c c.base) c.method.name → t ≡ true → b ≡ is_wrong c → l ≡ book_after k (notes_if b rule.NotChangeable at)
     → Leaves k (call_bound u w at c ps) l (call_left u w at ps (calls.Bound c b))
 bound_sound u w at c ps t b k l et e eb el =
     let h = subst (λ (d : Notebook). Leaves k (call_bound_sound true u w at c ps) d (call_left u w at ps (calls.Bound c b))) (sym el) (sound_bound u w at c ps b k eb) in

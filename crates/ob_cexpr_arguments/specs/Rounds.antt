@@ -13,6 +13,7 @@ use Rattle.ob_rules.specs.declared.meant.Meant.{Meant}
 use Rattle.ob_rules.specs.declared.meant.Where.{Where}
 use Rattle.ob_rules.specs.declared.broken.Predeclared.{Predeclared}
 use Rattle.ob_rules.specs.declared.broken.Predeclared.TheVariants as pre
+use Rattle.ob_rules.specs.declared.broken.Rule.TheVariants as rule
 use Rattle.ob_rules.specs.Judged.{Judged, if_sound, silent, breaks, noted, each_sound, ◌▷◌}
 use Rattle.ob_rules.specs.Books.{book_after}
 use Rattle.ob_rules.specs.Names.{Around, type_named}
@@ -59,7 +60,7 @@ call_left u w at ps c = noted (actuals u (params_of c) ps).notes (finished w at 
 -- what is left of round brackets
 abbrev pub round_left : Around → Where → Pos → Pos → List Phrase → Opened → Judged Meant
 round_left u w start at ps (opens.Guard m) = plain m
-round_left u w start at ps opens.Nothing = noted (visited u ps) (breaks 22 at)
+round_left u w start at ps opens.Nothing = noted (visited u ps) (breaks rule.UnfitSelector at)
 round_left u w start at ps (opens.Call c) = as_call (call_left u w start ps c)
 round_left u w start at ps (opens.Extreme max) = extreme_call max u w start ps
 round_left u w start at ps (opens.Predeclared f) = each_sound (parameters_asked u (asked_first f) (asked_second f) ps) ▷ call_fit u w f start
@@ -67,7 +68,7 @@ round_left u w start at ps (opens.Predeclared f) = each_sound (parameters_asked 
 -- a type in round brackets behind what is no variable, or else this
 abbrev pub misfit_or : Around → Pos → Option Qualident → Judged Meant → Judged Meant
 misfit_or u at None j = j
-misfit_or u at (Some q) j = type_named u q ▷ λ t. breaks 23 at
+misfit_or u at (Some q) j = type_named u q ▷ λ t. breaks rule.UnfitTypeTest at
 
 -- of MAX that it is MAX, and of MIN that it is not
 abbrev pub extreme_kind : Predeclared → Option Bool

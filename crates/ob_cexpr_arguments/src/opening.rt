@@ -15,7 +15,7 @@ ghost use Rattle.ob_cexpr_arguments.specs.Rounds.{Leaves, call_left, round_left,
 use crate::callables::Callable;
 use ob_cexpr_call::{is_nearest_sound, is_receiver_read_only, out_signature};
 use ob_cexpr_operand::{guard_misfit, guard_named, held_signature, type_in_round};
-use ob_rules::{Chosen, Meant, Notebook, Place, Predeclared, Surroundings};
+use ob_rules::{Chosen, Meant, Notebook, Place, Predeclared, Rule, Surroundings};
 use ob_tree::{Expr, Pos};
 use std::alloc::{AllocError, Global};
 
@@ -88,7 +88,7 @@ fn bound_callable<S: Surroundings>(
 {
     if is_nearest_sound(here, &chosen) {
         let broken = is_receiver_read_only(&chosen);
-        book.breaks_if(broken, 26, start);
+        book.breaks_if(broken, Rule::NotChangeable, start);
         Callable::Bound(chosen, broken)
     } else {
         Callable::Unsound

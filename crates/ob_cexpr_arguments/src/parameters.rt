@@ -7,6 +7,7 @@ ghost use Rattle.ob_rules.specs.Judged as judged;
 ghost use Rattle.ob_rules.specs.Names.{Around};
 ghost use Rattle.ob_rules.specs.Calls as calls;
 ghost use Rattle.ob_rules.specs.declared.meant.Meant.{Meant as AMeant};
+ghost use Rattle.ob_rules.specs.declared.broken.Rule.TheVariants as rule;
 ghost use Rattle.ob_rules.specs.Predeclared as spec;
 ghost use Rattle.ob_cexpr_arguments.specs.Arguments.{meant_left, left_of};
 
@@ -58,8 +59,8 @@ pub fn further(
     at: Pos,
     parameters: Option<Vec<Valued>>,
 ) -> Option<Meant>
-    ensures made { result ≡ (judged.if_sound {B = AMeant} (option_map (λ v. v.items) parameters) (λ xs. judged.also (calls.misplaced place true) 27 at (judged.breaks 28 at))).node }
-    ensures noted { book.new ≡ book_after book.old (judged.if_sound {B = AMeant} (option_map (λ v. v.items) parameters) (λ xs. judged.also (calls.misplaced place true) 27 at (judged.breaks 28 at))).notes }
+    ensures made { result ≡ (judged.if_sound {B = AMeant} (option_map (λ v. v.items) parameters) (λ xs. judged.also (calls.misplaced place true) rule.MisplacedCall at (judged.breaks rule.UnfitPredeclaredParameters at))).node }
+    ensures noted { book.new ≡ book_after book.old (judged.if_sound {B = AMeant} (option_map (λ v. v.items) parameters) (λ xs. judged.also (calls.misplaced place true) rule.MisplacedCall at (judged.breaks rule.UnfitPredeclaredParameters at))).notes }
 {
     match parameters {
         None => None,

@@ -11,6 +11,7 @@ ghost use Rattle.ob_types.specs.declared.types.Mode.TheVariants as mode;
 ghost use Rattle.ob_types.specs.declared.types.TypeRef.TheVariants as ref;
 ghost use Rattle.ob_types.specs.declared.typed.Actual.{Actual as AActual};
 ghost use Rattle.ob_types.specs.Tests.{same_at};
+ghost use Rattle.ob_rules.specs.declared.broken.Rule.TheVariants as rule;
 ghost use Rattle.ob_rules.specs.Shapes as shapes;
 ghost use Rattle.ob_rules.specs.Values as values;
 ghost use Rattle.ob_cexpr_call.specs.Rows.{actual_seen, one_seen};
@@ -19,7 +20,7 @@ use ob_cexpr_name::{
     array_type, extends_record, fits, has_elements, has_text, is_array, open_element, passing_of,
     record_of, text_tree, tree_of, types,
 };
-use ob_rules::{Meant, Notebook, Place, Surroundings, Valued};
+use ob_rules::{Meant, Notebook, Place, Rule, Surroundings, Valued};
 use ob_tree::{Pos, QName};
 use ob_types::{Basic, Mode, Passing, TypeRef, Types, is_same_at};
 use ob_types_trees::{ExprTree, copy_type};
@@ -104,7 +105,7 @@ fn value_if<T: Types>(
         let passed = passed_value(alloc, types, formal, x)?;
         Ok(Some(passed))
     } else {
-        book.breaks(25, start);
+        book.breaks(Rule::UnfitParameter, start);
         Ok(None)
     }
 }
@@ -174,7 +175,7 @@ fn unless_guarded<T: Types>(
     ensures noted { OnOk result (book.new ≡ book_after book.old (spec.unless_guarded (T.types types.now) formal.now start place).notes) }
 {
     if place.guarded {
-        book.breaks(38, start);
+        book.breaks(Rule::GuardedVarParameter, start);
         Ok(None)
     } else {
         let passing = passing_of(types, Mode::Var, formal);
@@ -199,7 +200,7 @@ fn unless_read_only<T: Types>(
     ensures noted { OnOk result (book.new ≡ book_after book.old (spec.unless_read_only (T.types types.now) formal.now start place).notes) }
 {
     if place.read_only {
-        book.breaks(26, start);
+        book.breaks(Rule::NotChangeable, start);
         let _ = unless_guarded(types, book, formal, start, place)?;
         Ok(None)
     } else {
@@ -215,13 +216,13 @@ fn unless_unfit<T: Types>(
     start: Pos,
     place: Place,
 ) -> Result<Option<Passed>, AllocError>
-    ensures made { IfOk result (λ r. one_seen r ≡ (judged.also (not fits) 25 start (spec.unless_read_only (T.types types.now) formal.now start place)).node) }
-    ensures noted { OnOk result (book.new ≡ book_after book.old (judged.also (not fits) 25 start (spec.unless_read_only (T.types types.now) formal.now start place)).notes) }
+    ensures made { IfOk result (λ r. one_seen r ≡ (judged.also (not fits) rule.UnfitParameter start (spec.unless_read_only (T.types types.now) formal.now start place)).node) }
+    ensures noted { OnOk result (book.new ≡ book_after book.old (judged.also (not fits) rule.UnfitParameter start (spec.unless_read_only (T.types types.now) formal.now start place)).notes) }
 {
     if fits {
         unless_read_only(types, book, formal, start, place)
     } else {
-        book.breaks(25, start);
+        book.breaks(Rule::UnfitParameter, start);
         let _ = unless_read_only(types, book, formal, start, place)?;
         Ok(None)
     }
@@ -254,7 +255,7 @@ fn meant_if<T: Types>(
     match meant {
         Meant::Place(place) => variable_actual(types, book, formal, start, place),
         Meant::Call(_) => {
-            book.breaks(25, start);
+            book.breaks(Rule::UnfitParameter, start);
             Ok(None)
         }
         Meant::Constant(_)
@@ -263,7 +264,7 @@ fn meant_if<T: Types>(
         | Meant::Out(_)
         | Meant::Predeclared(_)
         | Meant::Statement(_) => {
-            book.breaks(26, start);
+            book.breaks(Rule::NotChangeable, start);
             Ok(None)
         }
     }
@@ -290,11 +291,11 @@ pub fn meant_actual<S: Surroundings>(
 /// An expression that is no designator as the actual parameter for a formal one by VAR, where it is
 /// judged already: rule 25, where there is one. Takes no memory.
 pub fn not_a_variable(book: &mut Notebook, start: Pos, x: Option<Valued>) -> Option<Passed>
-    ensures made { one_seen result ≡ (judged.if_sound {B = AActual} x (λ v. judged.breaks 25 start)).node }
-    ensures noted { book.new ≡ book_after book.old (judged.if_sound {B = AActual} x (λ v. judged.breaks 25 start)).notes }
+    ensures made { one_seen result ≡ (judged.if_sound {B = AActual} x (λ v. judged.breaks rule.UnfitParameter start)).node }
+    ensures noted { book.new ≡ book_after book.old (judged.if_sound {B = AActual} x (λ v. judged.breaks rule.UnfitParameter start)).notes }
 {
     if x.is_some() {
-        book.breaks(25, start);
+        book.breaks(Rule::UnfitParameter, start);
     }
     None
 }

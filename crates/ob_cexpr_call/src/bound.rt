@@ -11,12 +11,13 @@ ghost use Rattle.ob_rules.specs.Judged as judged;
 ghost use Rattle.ob_rules.specs.Phrases as phrases;
 ghost use Rattle.ob_rules.specs.Calls as spec;
 ghost use Rattle.ob_cexpr_call.specs.Rows.{actual_seen, row_seen};
+ghost use Rattle.ob_rules.specs.declared.broken.Rule.{Rule as ARule};
 
 use crate::actuals::Passed;
 use crate::callees::{copy_result, misplaced, result_kind};
 use ob_cexpr_designator::through;
 use ob_cexpr_name::{base_record, types};
-use ob_rules::{Chosen, Computed, Notebook, Place, Surroundings, Valued, Where};
+use ob_rules::{Chosen, Computed, Notebook, Place, Rule, Surroundings, Valued, Where};
 use ob_tree::{CompactName, Name, Pos, QName};
 use ob_types::{Callee, Family, Passing, Receiver, TypeRef};
 use ob_types_trees::{ActualTrees, ExprTree, copy_name};
@@ -88,7 +89,7 @@ pub fn is_receiver_read_only(chosen: &Chosen) -> bool
 
 /// What was made of a part, unless the part breaks a rule besides, which is noted already.
 pub fn unless_broken(broken: bool, call: Option<Valued>) -> Option<Valued>
-    ensures { (rule : ℕ) (at : APos) (n : judged.Notes) → result ≡ (judged.also broken rule at (record { node = call; notes = n })).node }
+    ensures { (which : ARule) (at : APos) (n : judged.Notes) → result ≡ (judged.also broken which at (record { node = call; notes = n })).node }
 {
     if broken { None } else { call }
 }
@@ -190,11 +191,11 @@ fn call_to(
     ensures noted { OnOk result (book.new ≡ book_after book.old (spec.called_with place at chosen.method.signature count (λ xs. e.Call (spec.bound_callee chosen chosen.base) (spec.receiver_actual chosen.method.receiver chosen ∷ xs) at chosen.method.signature.result) actuals.inner).notes) }
 {
     if count != chosen.method.signature.params.len() {
-        book.breaks(24, at);
+        book.breaks(Rule::WrongParameterCount, at);
         return Ok(None);
     }
     if misplaced(place, chosen.method.signature.result.is_some()) {
-        book.breaks(27, at);
+        book.breaks(Rule::MisplacedCall, at);
         return Ok(None);
     }
     let of = result_kind(&chosen.method.signature.result)?;

@@ -11,7 +11,7 @@ ghost use Rattle.ob_rules.specs.Names as names;
 ghost use Rattle.ob_rules.specs.Calls as spec;
 ghost use Rattle.ob_cexpr_call.specs.Rows.{row_seen};
 
-use ob_rules::{Computed, Notebook, Place, Valued, Where};
+use ob_rules::{Computed, Notebook, Place, Rule, Valued, Where};
 use ob_tree::{CompactName, List, ObjName, Pos, QName};
 use ob_types::{Basic, Callee, ExprType, Mode, OutProcedure, Signature, TypeRef};
 use ob_types_trees::{ActualTrees, ExprTree, copy_type};
@@ -68,11 +68,11 @@ fn call_by(
     ensures noted { OnOk result (book.new ≡ book_after book.old (spec.called_with place at signature.now count (λ xs. e.Call callee xs at signature.now.result) actuals.inner).notes) }
 {
     if count != signature.params.len() {
-        book.breaks(24, at);
+        book.breaks(Rule::WrongParameterCount, at);
         return Ok(None);
     }
     if misplaced(place, signature.result.is_some()) {
-        book.breaks(27, at);
+        book.breaks(Rule::MisplacedCall, at);
         return Ok(None);
     }
     let of = copy_result(&signature.result)?;
@@ -96,11 +96,11 @@ fn call_held(
     ensures noted { OnOk result (book.new ≡ book_after book.old (spec.called_with place at signature.now count (λ xs. e.CallVariable variable.designator.inner xs at signature.now.result) actuals.inner).notes) }
 {
     if count != signature.params.len() {
-        book.breaks(24, at);
+        book.breaks(Rule::WrongParameterCount, at);
         return Ok(None);
     }
     if misplaced(place, signature.result.is_some()) {
-        book.breaks(27, at);
+        book.breaks(Rule::MisplacedCall, at);
         return Ok(None);
     }
     let of = copy_result(&signature.result)?;

@@ -10,7 +10,7 @@ ghost use Rattle.ob_cexpr_name.specs.Members.{member_seen};
 
 use crate::places::same_variable;
 use ob_cexpr_name::{Member, base_record, find_member, types};
-use ob_rules::{Chosen, Meant, Notebook, Received, Surroundings};
+use ob_rules::{Chosen, Meant, Notebook, Received, Rule, Surroundings};
 use ob_tree::{Pos, QName};
 use ob_types::Types;
 use ob_types_trees::copy_name;
@@ -31,7 +31,7 @@ fn super_of(
             Some(Meant::Bound(chosen.begun_at(introduced, method, base)))
         }
         _ => {
-            book.breaks(40, at);
+            book.breaks(Rule::UnfitSuperCall, at);
             None
         }
     }
@@ -50,7 +50,7 @@ fn super_in<T: Types>(
 {
     match base {
         None => {
-            book.breaks(40, at);
+            book.breaks(Rule::UnfitSuperCall, at);
             Ok(None)
         }
         Some(base) => {
@@ -76,7 +76,7 @@ fn super_if<T: Types>(
     if own {
         super_in(alloc, types, book, at, chosen, base_record(types, owner))
     } else {
-        book.breaks(40, at);
+        book.breaks(Rule::UnfitSuperCall, at);
         Ok(None)
     }
 }
@@ -100,7 +100,7 @@ fn super_by<T: Types>(
 {
     match received {
         None => {
-            book.breaks(40, at);
+            book.breaks(Rule::UnfitSuperCall, at);
             Ok(None)
         }
         Some(received) => {

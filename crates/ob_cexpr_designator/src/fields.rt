@@ -17,7 +17,7 @@ use crate::places::{dereferenced, pointed_type};
 use ob_cexpr_name::{
     Member, extends_record, find_member, is_held, pointed_record, record_of, types,
 };
-use ob_rules::{Chosen, Coming, Entity, Meant, Notebook, Place, Surroundings};
+use ob_rules::{Chosen, Coming, Entity, Meant, Notebook, Place, Rule, Surroundings};
 use ob_tree::{CompactName, Ident, Mark, Name, Pos, QName};
 use ob_types::{Field, Receiver, TypeRef, Types};
 use ob_types_trees::{DesignatorTree, copy_name, copy_type};
@@ -157,9 +157,9 @@ fn not_there(book: &mut Notebook, comes: bool, last: bool, start: Pos, x: &Ident
     ensures noted { book.new ≡ book_after book.old (spec.not_there comes last start x.now).notes }
 {
     if !comes {
-        book.breaks(2, x.pos);
+        book.breaks(Rule::NotDeclared, x.pos);
     } else if last {
-        book.breaks(39, start);
+        book.breaks(Rule::UnfitProcedureValue, start);
     }
     None
 }
@@ -174,7 +174,7 @@ fn select_bound(book: &mut Notebook, at: Pos, pointer: bool, chosen: Chosen) -> 
             if pointer {
                 Some(Meant::Bound(chosen))
             } else {
-                book.breaks(22, at);
+                book.breaks(Rule::UnfitSelector, at);
                 None
             }
         }
@@ -293,7 +293,7 @@ fn select_of<S: Surroundings>(
 {
     match record_in(here, &place, &pointed)? {
         None => {
-            book.breaks(22, at);
+            book.breaks(Rule::UnfitSelector, at);
             Ok(None)
         }
         Some(owner) => member_of(alloc, here, book, start, at, x, place, pointed, last, owner),

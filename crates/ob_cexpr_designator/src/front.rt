@@ -11,7 +11,7 @@ ghost use Rattle.ob_cexpr_designator.specs.Fronts.{front_judged};
 
 use crate::places::variable_named;
 use ob_cexpr_name::{exported, is_out, named, out_procedure};
-use ob_rules::{Entity, Meant, Notebook, Surroundings};
+use ob_rules::{Entity, Meant, Notebook, Rule, Surroundings};
 use ob_tree::{CompactName, Ident, Mark, Name, ObjName, Pos, QName};
 use ob_types::{Desc, OutProcedure, Signature, TypeRef, Variable};
 use ob_types_trees::{copy_name, copy_signature, copy_value};
@@ -91,7 +91,7 @@ fn exported_meant<S: Surroundings>(
         | Desc::Pointer(_, _)
         | Desc::ProcType(_, _)
         | Desc::Record(_) => {
-            book.breaks(3, x.pos);
+            book.breaks(Rule::WrongKind, x.pos);
             Ok(None)
         }
     }
@@ -103,7 +103,7 @@ fn out_meant(book: &mut Notebook, at: Pos, procedure: Option<OutProcedure>) -> O
 {
     match procedure {
         None => {
-            book.breaks(2, at);
+            book.breaks(Rule::NotDeclared, at);
             None
         }
         Some(procedure) => Some(Meant::Out(procedure)),
@@ -158,7 +158,7 @@ fn module_front<S: Surroundings>(
 {
     match dot {
         None => {
-            book.breaks(3, start);
+            book.breaks(Rule::WrongKind, start);
             Ok(None)
         }
         Some(x) => in_module(alloc, here, book, start, unit, &x),
@@ -195,7 +195,7 @@ pub fn front_of<S: Surroundings>(
         Entity::Predeclared(procedure) => Ok(Some(Meant::Predeclared(*procedure))),
         Entity::Module(unit) => module_front(alloc, here, book, x.pos, unit, dot),
         Entity::TypeName(_) | Entity::LeftOut | Entity::Unsound => {
-            book.breaks(3, x.pos);
+            book.breaks(Rule::WrongKind, x.pos);
             Ok(None)
         }
     }

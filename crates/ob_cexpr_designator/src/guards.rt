@@ -9,7 +9,7 @@ ghost use Rattle.ob_rules.specs.Designators as spec;
 ghost use Rattle.ob_rules.specs.Shapes as shapes;
 
 use ob_cexpr_name::{extends_record, pointed_record, record_of, types};
-use ob_rules::{Meant, Notebook, Place, Surroundings};
+use ob_rules::{Meant, Notebook, Place, Rule, Surroundings};
 use ob_tree::{Pos, QName};
 use ob_types::{Guarded, TypeRef, Types};
 use ob_types_trees::{DesignatorTree, copy_name, copy_type};
@@ -135,7 +135,7 @@ fn guard_if<T: Types>(
 {
     match guard_of(types, &place, &t)? {
         None => {
-            book.breaks(23, at);
+            book.breaks(Rule::UnfitTypeTest, at);
             Ok(None)
         }
         Some(by) => {

@@ -11,7 +11,7 @@ ghost use Rattle.ob_rules.specs.Shapes as shapes;
 
 use crate::guards::{guard_of, guarded_by};
 use ob_cexpr_name::{array_of, is_array, is_held, is_integer, pointed, tree_of, types};
-use ob_rules::{Meant, Notebook, Place, Surroundings, Valued};
+use ob_rules::{Meant, Notebook, Place, Rule, Surroundings, Valued};
 use ob_tree::Pos;
 use ob_types::{Passing, TypeRef, Types, Variable};
 use ob_types_trees::{DesignatorTree, copy_type, copy_variable};
@@ -202,7 +202,7 @@ fn dereference_of<T: Types>(
 {
     match pointed_type(types, &place.of)? {
         None => {
-            book.breaks(22, at);
+            book.breaks(Rule::UnfitSelector, at);
             Ok(None)
         }
         Some(t) => {
@@ -324,7 +324,7 @@ fn indexed_if<T: Types>(
         let place = indexed(alloc, place, at, index, array)?;
         Ok(Some(place))
     } else {
-        book.breaks(22, at);
+        book.breaks(Rule::UnfitSelector, at);
         Ok(None)
     }
 }
@@ -342,7 +342,7 @@ fn index_into<T: Types>(
 {
     match array_parts(types, &place.of)? {
         None => {
-            book.breaks(22, at);
+            book.breaks(Rule::UnfitSelector, at);
             Ok(None)
         }
         Some(array) => match index {

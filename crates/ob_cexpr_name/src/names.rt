@@ -6,7 +6,7 @@ ghost use Rattle.std.specs.Option.{option_copied, option_map};
 ghost use Rattle.ob_rules.specs.Books.{book_after};
 ghost use Rattle.ob_rules.specs.Names as spec;
 
-use ob_rules::{Entity, Known, Notebook, Surroundings};
+use ob_rules::{Entity, Known, Notebook, Rule, Surroundings};
 use ob_tree::{CompactName, Ident, Mark, Name, ObjName, Pos, QName, Qualident};
 use ob_types::{Desc, OutProcedure, TypeRef};
 use ob_types_trees::copy_type;
@@ -30,13 +30,13 @@ fn entity_known<'a, S: Surroundings>(
 {
     match &known.what {
         Entity::LeftOut => {
-            book.breaks(7, at);
+            book.breaks(Rule::LeftOut, at);
             None
         }
         Entity::Unsound => None,
         Entity::Variable(_, _) => {
             if is_enclosing(here, known.scope) {
-                book.breaks(8, at);
+                book.breaks(Rule::OuterVariable, at);
                 None
             } else {
                 Some(&known.what)
@@ -58,7 +58,7 @@ pub fn named<'a, S: Surroundings>(here: &'a S, book: &mut Notebook, x: &Ident) -
 {
     match here.known(&x.name) {
         None => {
-            book.breaks(2, x.pos);
+            book.breaks(Rule::NotDeclared, x.pos);
             None
         }
         Some(known) => entity_known(here, book, x.pos, known),
@@ -108,7 +108,7 @@ pub fn exported<'a, S: Surroundings>(
 {
     match shown_of(here.shown(unit, &x.name)) {
         None => {
-            book.breaks(2, x.pos);
+            book.breaks(Rule::NotDeclared, x.pos);
             Ok(None)
         }
         Some(desc) => {
@@ -151,8 +151,8 @@ fn out_type(book: &mut Notebook, at: Pos, procedure: Option<OutProcedure>) -> Op
     ensures noted { book.new ≡ book_after book.old (spec.out_type at procedure).notes }
 {
     match procedure {
-        None => book.breaks(2, at),
-        Some(_) => book.breaks(3, at),
+        None => book.breaks(Rule::NotDeclared, at),
+        Some(_) => book.breaks(Rule::WrongKind, at),
     }
     None
 }
@@ -169,7 +169,7 @@ fn type_of_desc(
 {
     match desc {
         Desc::Const(_) | Desc::Var(_, _) | Desc::Proc(_) => {
-            book.breaks(3, x.pos);
+            book.breaks(Rule::WrongKind, x.pos);
             Ok(None)
         }
         Desc::Alias(_, _)
@@ -235,7 +235,7 @@ fn plain_type_of<S: Surroundings>(
             Ok(Some(of))
         }
         Entity::LeftOut => {
-            book.breaks(7, x.pos);
+            book.breaks(Rule::LeftOut, x.pos);
             Ok(None)
         }
         Entity::Unsound => Ok(None),
@@ -245,7 +245,7 @@ fn plain_type_of<S: Surroundings>(
         | Entity::Forward(_, _)
         | Entity::Module(_)
         | Entity::Predeclared(_) => {
-            book.breaks(3, x.pos);
+            book.breaks(Rule::WrongKind, x.pos);
             Ok(None)
         }
     }
@@ -265,7 +265,7 @@ fn type_behind<S: Surroundings>(
     match &known.what {
         Entity::Module(name) => type_in(alloc, here, book, name, x),
         Entity::LeftOut => {
-            book.breaks(7, unit.pos);
+            book.breaks(Rule::LeftOut, unit.pos);
             Ok(None)
         }
         Entity::Unsound => Ok(None),
@@ -275,7 +275,7 @@ fn type_behind<S: Surroundings>(
         | Entity::Procedure(_, _)
         | Entity::Forward(_, _)
         | Entity::Predeclared(_) => {
-            book.breaks(3, unit.pos);
+            book.breaks(Rule::WrongKind, unit.pos);
             Ok(None)
         }
     }
@@ -293,7 +293,7 @@ fn type_by<S: Surroundings>(
 {
     match here.known(&unit.name) {
         None => {
-            book.breaks(2, unit.pos);
+            book.breaks(Rule::NotDeclared, unit.pos);
             Ok(None)
         }
         Some(known) => type_behind(alloc, here, book, unit, x, known),
@@ -310,7 +310,7 @@ fn plain_type<S: Surroundings>(
 {
     match here.known(&x.name) {
         None => {
-            book.breaks(2, x.pos);
+            book.breaks(Rule::NotDeclared, x.pos);
             Ok(None)
         }
         Some(known) => plain_type_of(here, book, x, known),

@@ -4,6 +4,7 @@ use Rattle.ob_tree.specs.declared.pos.Pos.{Pos}
 use Rattle.ob_types.specs.declared.types.TypeRef.{TypeRef}
 use Rattle.ob_types.specs.declared.value.Value.{Value}
 use Rattle.ob_rules.specs.declared.values.Valued.{Valued}
+use Rattle.ob_rules.specs.declared.broken.Rule.TheVariants as rule
 use Rattle.ob_rules.specs.Judged.{Judged, no_notes, sound, breaks}
 use Rattle.ob_rules.specs.Values.{constant}
 
@@ -12,7 +13,7 @@ plain o = record { node = o; notes = no_notes }
 
 -- a literal of that value, if it has one
 abbrev pub literal_judged : Pos → Option Value → Judged Valued
-literal_judged at None = breaks 9 at
+literal_judged at None = breaks rule.LiteralTooLarge at
 literal_judged at (Some v) = sound (constant v)
 
 -- what a row comes to with more of it

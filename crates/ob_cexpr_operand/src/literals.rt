@@ -9,7 +9,7 @@ ghost use Rattle.ob_rules.specs.Constants.{text_value};
 ghost use Rattle.ob_cexpr_operand.specs.Plain.{literal_judged};
 
 use ob_const::{char_value, integer_value, string_value};
-use ob_rules::{Notebook, Valued};
+use ob_rules::{Notebook, Rule, Valued};
 use ob_tree::Pos;
 use ob_types::Value;
 use std::alloc::{AllocError, Global};
@@ -21,7 +21,7 @@ fn literal(book: &mut Notebook, at: Pos, value: Option<Value>) -> Option<Valued>
 {
     match value {
         None => {
-            book.breaks(9, at);
+            book.breaks(Rule::LiteralTooLarge, at);
             None
         }
         Some(value) => Some(Valued::Constant(value)),

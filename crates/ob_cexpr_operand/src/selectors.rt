@@ -8,11 +8,12 @@ ghost use Rattle.ob_rules.specs.Names.{map_of};
 ghost use Rattle.ob_rules.specs.Designators as spec;
 ghost use Rattle.ob_rules.specs.declared.meant.Meant.{Meant as AMeant};
 ghost use Rattle.ob_rules.specs.declared.meant.Meant.TheVariants as means;
+ghost use Rattle.ob_rules.specs.declared.broken.Rule.TheVariants as rule;
 ghost use Rattle.ob_cexpr_operand.specs.Plain.{plain};
 
 use ob_cexpr_designator::{dereference, guard, index, select, super_call};
 use ob_cexpr_name::type_named;
-use ob_rules::{Meant, Notebook, Place, Surroundings, Valued};
+use ob_rules::{Meant, Notebook, Place, Rule, Surroundings, Valued};
 use ob_tree::{Ident, Pos, Qualident};
 use ob_types::TypeRef;
 use std::alloc::{AllocError, Global};
@@ -41,7 +42,7 @@ pub fn select_step<S: Surroundings>(
         | Meant::Predeclared(_)
         | Meant::Call(_)
         | Meant::Statement(_) => {
-            book.breaks(22, at);
+            book.breaks(Rule::UnfitSelector, at);
             Ok(None)
         }
     }
@@ -93,7 +94,7 @@ pub fn index_step<S: Surroundings>(
         | Meant::Predeclared(_)
         | Meant::Call(_)
         | Meant::Statement(_) => {
-            book.breaks(22, at);
+            book.breaks(Rule::UnfitSelector, at);
             Ok(None)
         }
     }
@@ -134,7 +135,7 @@ pub fn up_step<S: Surroundings>(
         | Meant::Predeclared(_)
         | Meant::Call(_)
         | Meant::Statement(_) => {
-            book.breaks(22, at);
+            book.breaks(Rule::UnfitSelector, at);
             Ok(None)
         }
     }
@@ -167,13 +168,13 @@ pub fn guard_misfit<S: Surroundings>(
     at: Pos,
     name: &Qualident,
 ) -> Result<Option<Meant>, AllocError>
-    ensures made { IfOk result (λ r. r ≡ (judged.◌▷◌ (names.type_named (S.around here.now) name.now) (λ t. judged.breaks {A = AMeant} 23 at)).node) }
-    ensures noted { OnOk result (book.new ≡ book_after book.old (judged.◌▷◌ (names.type_named (S.around here.now) name.now) (λ t. judged.breaks {A = AMeant} 23 at)).notes) }
+    ensures made { IfOk result (λ r. r ≡ (judged.◌▷◌ (names.type_named (S.around here.now) name.now) (λ t. judged.breaks {A = AMeant} rule.UnfitTypeTest at)).node) }
+    ensures noted { OnOk result (book.new ≡ book_after book.old (judged.◌▷◌ (names.type_named (S.around here.now) name.now) (λ t. judged.breaks {A = AMeant} rule.UnfitTypeTest at)).notes) }
 {
     match type_named(alloc, here, book, name)? {
         None => Ok(None),
         Some(_) => {
-            book.breaks(23, at);
+            book.breaks(Rule::UnfitTypeTest, at);
             Ok(None)
         }
     }

@@ -11,10 +11,11 @@ ghost use Rattle.ob_types.specs.TypedKinds.{of_basic};
 ghost use Rattle.ob_types.specs.declared.types.Basic.TheVariants as basics;
 ghost use Rattle.ob_cexpr_operand.specs.Plain.{plain};
 ghost use Rattle.ob_rules.specs.declared.values.Valued.{Valued as AValued};
+ghost use Rattle.ob_rules.specs.declared.broken.Rule.TheVariants as rule;
 
 use ob_cexpr_designator::{guard_of, if_extends};
 use ob_cexpr_name::{array_type, is_pointer, pointed_record, tree_of, type_named, types};
-use ob_rules::{Computed, Notebook, Place, Surroundings, Valued};
+use ob_rules::{Computed, Notebook, Place, Rule, Surroundings, Valued};
 use ob_tree::{Pos, QName, Qualident};
 use ob_types::{Basic, ExprType, Guarded, TypeRef, Types};
 use ob_types_trees::{ExprTree, copy_name};
@@ -58,7 +59,7 @@ fn testable_by<T: Types>(
         None => None,
         Some(x) => {
             let testable = is_testable(types, &x);
-            book.wants(testable, 23, at, x)
+            book.wants(testable, Rule::UnfitTypeTest, at, x)
         }
     }
 }
@@ -191,7 +192,7 @@ fn test_by<T: Types>(
             None => Ok(None),
             Some(t) => {
                 let test = test_of(alloc, types, x, &t)?;
-                Ok(book.found_or(23, at, test))
+                Ok(book.found_or(Rule::UnfitTypeTest, at, test))
             }
         },
     }
@@ -230,12 +231,12 @@ pub fn type_test<S: Surroundings>(
 }
 
 fn misfit<T: Types>(types: &T, book: &mut Notebook, at: Pos, x: &Valued)
-    ensures { book.new ≡ book_after book.old (judged.also (not (spec.testable (T.types types.now) x.now)) 23 at (judged.breaks {A = AValued} 21 at)).notes }
+    ensures { book.new ≡ book_after book.old (judged.also (not (spec.testable (T.types types.now) x.now)) rule.UnfitTypeTest at (judged.breaks {A = AValued} rule.UnfitOperands at)).notes }
 {
     if !is_testable(types, x) {
-        book.breaks(23, at);
+        book.breaks(Rule::UnfitTypeTest, at);
     }
-    book.breaks(21, at);
+    book.breaks(Rule::UnfitOperands, at);
 }
 
 /// IS with something else on its right, which breaks rule 21. What stands on both sides is noted

@@ -15,7 +15,7 @@ ghost use Rattle.ob_rules.specs.declared.meant.Meant.TheVariants as means;
 
 use ob_cexpr_name::{type_named, types};
 use ob_cexpr_operator::{element, set_of};
-use ob_rules::{Computed, ElementOf, Meant, Notebook, Surroundings, Valued};
+use ob_rules::{Computed, ElementOf, Meant, Notebook, Rule, Surroundings, Valued};
 use ob_tree::{Pos, QName, Qualident};
 use ob_types::{ExprType, Signature, TypeRef, Types, Value, signature_within};
 use ob_types_assign::is_plain;
@@ -29,7 +29,7 @@ fn constant_of(book: &mut Notebook, start: Pos, x: Valued) -> Option<Value>
     match x {
         Valued::Constant(value) => Some(value),
         Valued::Place(_) | Valued::Node(_) => {
-            book.breaks(10, start);
+            book.breaks(Rule::NotConstant, start);
             None
         }
     }
@@ -45,7 +45,7 @@ pub fn constant_if(book: &mut Notebook, start: Pos, x: Option<Valued>, quiet: bo
         Some(x) => constant_of(book, start, x),
         None => {
             if quiet {
-                book.breaks(10, start);
+                book.breaks(Rule::NotConstant, start);
             }
             None
         }
@@ -104,7 +104,7 @@ fn procedure_value(
             of: ExprType::Procedure(more),
         }))
     } else {
-        book.breaks(39, at);
+        book.breaks(Rule::UnfitProcedureValue, at);
         None
     }
 }
@@ -131,7 +131,7 @@ pub fn value_if(
         Some(Meant::Call(x)) => Ok(Some(x)),
         Some(Meant::Statement(_)) => Ok(None),
         Some(Meant::Bound(_) | Meant::Out(_) | Meant::Predeclared(_)) => {
-            book.breaks(39, at);
+            book.breaks(Rule::UnfitProcedureValue, at);
             Ok(None)
         }
     }

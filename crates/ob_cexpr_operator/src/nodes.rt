@@ -10,7 +10,7 @@ ghost use Rattle.ob_rules.specs.Values as values;
 
 use ob_cexpr_name::{text_tree, tree_of};
 use ob_const::{fold_logical, fold_one, fold_texts, fold_two};
-use ob_rules::{Computed, Notebook, Valued};
+use ob_rules::{Computed, Notebook, Rule, Valued};
 use ob_tree::Pos;
 use ob_types::{Basic, Binary, Comparison, Connective, ExprType, TypeRef, Unary, Value};
 use ob_types_assign::{basic_of_binary, basic_of_unary};
@@ -24,7 +24,7 @@ fn folded(book: &mut Notebook, at: Pos, value: Option<Value>) -> Option<Valued>
 {
     match value {
         None => {
-            book.breaks(11, at);
+            book.breaks(Rule::ConstantOutOfRange, at);
             None
         }
         Some(value) => Some(Valued::Constant(value)),

@@ -9,7 +9,7 @@ ghost use Rattle.ob_rules.specs.Operators as spec;
 use crate::kinds::{are, integers};
 use crate::nodes::{dyadic, logical, monadic, only_value};
 use ob_cexpr_name::{is, width};
-use ob_rules::{Notebook, Valued};
+use ob_rules::{Notebook, Rule, Valued};
 use ob_tree::{Operator, Pos, Sign};
 use ob_types::{Basic, Binary, Connective, Types, Unary, Width};
 use std::alloc::{AllocError, Global};
@@ -95,7 +95,7 @@ fn operation(
 {
     match op {
         None => {
-            book.breaks(21, at);
+            book.breaks(Rule::UnfitOperands, at);
             Ok(None)
         }
         Some(op) => dyadic(alloc, book, op, at, a, b),
@@ -117,7 +117,7 @@ fn connected(
     if truths {
         logical(alloc, book, op, at, a, b)
     } else {
-        book.breaks(21, at);
+        book.breaks(Rule::UnfitOperands, at);
         Ok(None)
     }
 }
@@ -170,7 +170,7 @@ pub fn opposite<T: Types>(
     if is(types, Basic::Boolean, &x) {
         monadic(alloc, book, Unary::Not, at, x)
     } else {
-        book.breaks(21, at);
+        book.breaks(Rule::UnfitOperands, at);
         Ok(None)
     }
 }
@@ -182,7 +182,7 @@ fn plus(book: &mut Notebook, width: Option<Width>, set: bool, at: Pos, x: Valued
     match width {
         Some(_) => Some(only_value(x)),
         None => {
-            book.breaks(21, at);
+            book.breaks(Rule::UnfitOperands, at);
             None
         }
     }
@@ -205,7 +205,7 @@ fn minus(
             if set {
                 monadic(alloc, book, Unary::Complement, at, x)
             } else {
-                book.breaks(21, at);
+                book.breaks(Rule::UnfitOperands, at);
                 Ok(None)
             }
         }

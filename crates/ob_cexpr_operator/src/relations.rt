@@ -7,7 +7,7 @@ ghost use Rattle.ob_rules.specs.Operators as spec;
 use crate::kinds::{are, are_pointers, are_procedures, integers, is_text};
 use crate::nodes::{dyadic, texts};
 use ob_cexpr_name::{is, is_integer};
-use ob_rules::{Notebook, Valued};
+use ob_rules::{Notebook, Rule, Valued};
 use ob_tree::{Pos, Relation};
 use ob_types::{Basic, Binary, Compared, Comparison, Types};
 use std::alloc::{AllocError, Global};
@@ -96,7 +96,7 @@ fn compare_as(
             if both_texts {
                 texts(alloc, book, comparison, at, a, b)
             } else {
-                book.breaks(21, at);
+                book.breaks(Rule::UnfitOperands, at);
                 Ok(None)
             }
         }
@@ -117,7 +117,7 @@ fn contained(
     if fit {
         dyadic(alloc, book, Binary::In, at, a, b)
     } else {
-        book.breaks(21, at);
+        book.breaks(Rule::UnfitOperands, at);
         Ok(None)
     }
 }

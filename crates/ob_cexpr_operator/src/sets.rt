@@ -12,7 +12,7 @@ ghost use Rattle.ob_rules.specs.Values as values;
 
 use ob_cexpr_name::{is_integer, tree_of};
 use ob_const::{fold_one, fold_two};
-use ob_rules::{Computed, ElementOf, Notebook, Valued};
+use ob_rules::{Computed, ElementOf, Notebook, Rule, Valued};
 use ob_tree::Pos;
 use ob_types::{Basic, Binary, ExprType, TypeRef, Types, Unary, Value};
 use ob_types_trees::ExprTree;
@@ -30,7 +30,7 @@ fn element_folded(
 {
     match constant {
         None => {
-            book.breaks(11, at);
+            book.breaks(Rule::ConstantOutOfRange, at);
             None
         }
         Some(constant) => Some(ElementOf {
@@ -157,7 +157,7 @@ pub fn element<T: Types>(
             if is_integer(types, &low) {
                 single(alloc, book, at, low)
             } else {
-                book.breaks(21, at);
+                book.breaks(Rule::UnfitOperands, at);
                 Ok(None)
             }
         }
@@ -165,7 +165,7 @@ pub fn element<T: Types>(
             if is_integer(types, &low) && is_integer(types, &high) {
                 ranged(alloc, book, at, low, high)
             } else {
-                book.breaks(21, at);
+                book.breaks(Rule::UnfitOperands, at);
                 Ok(None)
             }
         }

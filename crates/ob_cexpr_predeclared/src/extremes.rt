@@ -4,13 +4,14 @@ ghost use Rattle.std.specs.Prelude.{◌≡◌, IfOk, OnOk, Some, true, false};
 ghost use Rattle.ob_rules.specs.Books.{book_after};
 ghost use Rattle.ob_rules.specs.Judged as judged;
 ghost use Rattle.ob_rules.specs.declared.meant.Meant.{Meant as AMeant};
+ghost use Rattle.ob_rules.specs.declared.broken.Rule.TheVariants as rule;
 ghost use Rattle.ob_rules.specs.Names.{map_of};
 ghost use Rattle.ob_rules.specs.Calls as calls;
 ghost use Rattle.ob_rules.specs.Predeclared as spec;
 
 use ob_cexpr_call::misplaced;
 use ob_cexpr_name::{basic_of, types};
-use ob_rules::{Meant, Notebook, Surroundings, Valued, Where};
+use ob_rules::{Meant, Notebook, Rule, Surroundings, Valued, Where};
 use ob_tree::Pos;
 use ob_types::{Basic, TypeRef, Types, Value};
 use std::alloc::AllocError;
@@ -59,7 +60,7 @@ fn extreme_in(
 {
     match basic {
         None => {
-            book.breaks(28, at);
+            book.breaks(Rule::UnfitPredeclaredParameters, at);
             Ok(None)
         }
         Some(basic) => {
@@ -81,7 +82,7 @@ fn extreme_of<T: Types>(
 {
     match t {
         None => {
-            book.breaks(28, at);
+            book.breaks(Rule::UnfitPredeclaredParameters, at);
             Ok(None)
         }
         Some(t) => {
@@ -99,11 +100,11 @@ fn extreme_unless<T: Types>(
     at: Pos,
     t: Option<TypeRef>,
 ) -> Result<Option<Meant>, AllocError>
-    ensures made { IfOk result (λ r. r ≡ (judged.also misplaced 27 at (spec.extreme_of max at t (spec.basic_if (T.types types.now) t))).node) }
-    ensures noted { OnOk result (book.new ≡ book_after book.old (judged.also misplaced 27 at (spec.extreme_of max at t (spec.basic_if (T.types types.now) t))).notes) }
+    ensures made { IfOk result (λ r. r ≡ (judged.also misplaced rule.MisplacedCall at (spec.extreme_of max at t (spec.basic_if (T.types types.now) t))).node) }
+    ensures noted { OnOk result (book.new ≡ book_after book.old (judged.also misplaced rule.MisplacedCall at (spec.extreme_of max at t (spec.basic_if (T.types types.now) t))).notes) }
 {
     if misplaced {
-        book.breaks(27, at);
+        book.breaks(Rule::MisplacedCall, at);
         let _ = extreme_of(types, book, max, at, t)?;
         Ok(None)
     } else {
@@ -123,8 +124,8 @@ pub fn extreme<S: Surroundings>(
     at: Pos,
     parameter: Option<Option<TypeRef>>,
 ) -> Result<Option<Meant>, AllocError>
-    ensures made { IfOk result (λ r. r ≡ (judged.if_sound parameter (λ t. judged.also (calls.misplaced place true) 27 at (spec.extreme_of max at t (spec.basic_if (map_of (S.around here.now)) t)))).node) }
-    ensures noted { OnOk result (book.new ≡ book_after book.old (judged.if_sound parameter (λ t. judged.also (calls.misplaced place true) 27 at (spec.extreme_of max at t (spec.basic_if (map_of (S.around here.now)) t)))).notes) }
+    ensures made { IfOk result (λ r. r ≡ (judged.if_sound parameter (λ t. judged.also (calls.misplaced place true) rule.MisplacedCall at (spec.extreme_of max at t (spec.basic_if (map_of (S.around here.now)) t)))).node) }
+    ensures noted { OnOk result (book.new ≡ book_after book.old (judged.if_sound parameter (λ t. judged.also (calls.misplaced place true) rule.MisplacedCall at (spec.extreme_of max at t (spec.basic_if (map_of (S.around here.now)) t)))).notes) }
 {
     match parameter {
         None => Ok(None),
@@ -133,21 +134,21 @@ pub fn extreme<S: Surroundings>(
 }
 
 fn unless_misplaced(book: &mut Notebook, misplaced: bool, at: Pos) -> Option<Meant>
-    ensures made { result ≡ (judged.also {A = AMeant} misplaced 27 at (judged.breaks 28 at)).node }
-    ensures noted { book.new ≡ book_after book.old (judged.also {A = AMeant} misplaced 27 at (judged.breaks 28 at)).notes }
+    ensures made { result ≡ (judged.also {A = AMeant} misplaced rule.MisplacedCall at (judged.breaks rule.UnfitPredeclaredParameters at)).node }
+    ensures noted { book.new ≡ book_after book.old (judged.also {A = AMeant} misplaced rule.MisplacedCall at (judged.breaks rule.UnfitPredeclaredParameters at)).notes }
 {
     if misplaced {
-        book.breaks(27, at);
+        book.breaks(Rule::MisplacedCall, at);
     }
-    book.breaks(28, at);
+    book.breaks(Rule::UnfitPredeclaredParameters, at);
     None
 }
 
 /// A call of MAX or MIN with no parameter, or with more than one: rule 28, and perhaps rule 27.
 /// Takes no memory.
 pub fn no_extreme(book: &mut Notebook, place: Where, at: Pos) -> Option<Meant>
-    ensures made { result ≡ (judged.also {A = AMeant} (calls.misplaced place true) 27 at (judged.breaks 28 at)).node }
-    ensures noted { book.new ≡ book_after book.old (judged.also {A = AMeant} (calls.misplaced place true) 27 at (judged.breaks 28 at)).notes }
+    ensures made { result ≡ (judged.also {A = AMeant} (calls.misplaced place true) rule.MisplacedCall at (judged.breaks rule.UnfitPredeclaredParameters at)).node }
+    ensures noted { book.new ≡ book_after book.old (judged.also {A = AMeant} (calls.misplaced place true) rule.MisplacedCall at (judged.breaks rule.UnfitPredeclaredParameters at)).notes }
 {
     unless_misplaced(book, misplaced(place, true), at)
 }

@@ -2,6 +2,7 @@
 
 ghost use Rattle.std.specs.Prelude.{◌≡◌, IfOk, OnOk};
 ghost use Rattle.std.specs.Option.{option_map};
+ghost use Rattle.ob_rules.specs.declared.broken.Rule.TheVariants as rule;
 ghost use Rattle.ob_rules.specs.Books.{book_after};
 ghost use Rattle.ob_rules.specs.Judged as judged;
 ghost use Rattle.ob_rules.specs.Names.{map_of};
@@ -16,7 +17,7 @@ use ob_cexpr_operator::unfit;
 use ob_cexpr_procedures::{
     assert, assert_with, copy, element_step, halt, new_many, new_one, number_of, place_of, step,
 };
-use ob_rules::{Meant, Notebook, Predeclared, Surroundings, Valued, Where};
+use ob_rules::{Meant, Notebook, Predeclared, Rule, Surroundings, Valued, Where};
 use ob_tree::Pos;
 use ob_types::{Basic, Types, Unary, Update, Value};
 use std::alloc::{AllocError, Global};
@@ -185,11 +186,11 @@ fn fit_unless<T: Types>(
     at: Pos,
     parameters: Vec<Valued>,
 ) -> Result<Option<Meant>, AllocError>
-    ensures made { IfOk result (λ r. r ≡ (judged.also misplaced 27 at (spec.if_fit at (spec.fit (T.types types.now) procedure at parameters.items))).node) }
-    ensures noted { OnOk result (book.new ≡ book_after book.old (judged.also misplaced 27 at (spec.if_fit at (spec.fit (T.types types.now) procedure at parameters.items))).notes) }
+    ensures made { IfOk result (λ r. r ≡ (judged.also misplaced rule.MisplacedCall at (spec.if_fit at (spec.fit (T.types types.now) procedure at parameters.items))).node) }
+    ensures noted { OnOk result (book.new ≡ book_after book.old (judged.also misplaced rule.MisplacedCall at (spec.if_fit at (spec.fit (T.types types.now) procedure at parameters.items))).notes) }
 {
     if misplaced {
-        book.breaks(27, at);
+        book.breaks(Rule::MisplacedCall, at);
         let _ = fit(alloc, types, book, procedure, at, parameters)?;
         Ok(None)
     } else {

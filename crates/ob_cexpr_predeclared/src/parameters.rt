@@ -1,6 +1,7 @@
 //! What is asked of parameters.
 
 ghost use Rattle.std.specs.Prelude.{◌≡◌, is_some};
+ghost use Rattle.ob_rules.specs.declared.broken.Rule.TheVariants as rule;
 ghost use Rattle.ob_rules.specs.Books.{book_after};
 ghost use Rattle.ob_rules.specs.Judged as judged;
 ghost use Rattle.ob_rules.specs.Operators as operators;
@@ -8,7 +9,7 @@ ghost use Rattle.ob_rules.specs.Values as values;
 ghost use Rattle.ob_rules.specs.Predeclared as spec;
 
 use ob_cexpr_operator::only_value;
-use ob_rules::{Asked, Meant, Notebook, Predeclared, Valued};
+use ob_rules::{Asked, Meant, Notebook, Predeclared, Rule, Valued};
 use ob_tree::Pos;
 
 fn changed(book: &mut Notebook, start: Pos, meant: Meant) -> Option<Valued>
@@ -18,7 +19,7 @@ fn changed(book: &mut Notebook, start: Pos, meant: Meant) -> Option<Valued>
     match meant {
         Meant::Place(place) => {
             if place.read_only {
-                book.breaks(26, start);
+                book.breaks(Rule::NotChangeable, start);
                 None
             } else {
                 Some(Valued::Place(place))
@@ -31,7 +32,7 @@ fn changed(book: &mut Notebook, start: Pos, meant: Meant) -> Option<Valued>
         | Meant::Out(_)
         | Meant::Predeclared(_)
         | Meant::Statement(_) => {
-            book.breaks(26, start);
+            book.breaks(Rule::NotChangeable, start);
             None
         }
     }
@@ -70,13 +71,13 @@ fn is_constant(x: &Valued) -> bool
 }
 
 fn constant(book: &mut Notebook, start: Pos, x: Valued) -> Option<Valued>
-    ensures made { result ≡ (judged.wants (is_some (values.constant_in x)) 10 start x).node }
-    ensures noted { book.new ≡ book_after book.old (judged.wants (is_some (values.constant_in x)) 10 start x).notes }
+    ensures made { result ≡ (judged.wants (is_some (values.constant_in x)) rule.NotConstant start x).node }
+    ensures noted { book.new ≡ book_after book.old (judged.wants (is_some (values.constant_in x)) rule.NotConstant start x).notes }
 {
     if is_constant(&x) {
         Some(x)
     } else {
-        book.breaks(10, start);
+        book.breaks(Rule::NotConstant, start);
         None
     }
 }
@@ -84,8 +85,8 @@ fn constant(book: &mut Notebook, start: Pos, x: Valued) -> Option<Valued>
 /// An expression as a parameter that must be constant, where it is judged already. None where it is
 /// none, or breaks rule 10. Takes no memory.
 pub fn constant_parameter(book: &mut Notebook, start: Pos, x: Option<Valued>) -> Option<Valued>
-    ensures made { result ≡ (judged.if_sound x (λ v. judged.wants (is_some (values.constant_in v)) 10 start v)).node }
-    ensures noted { book.new ≡ book_after book.old (judged.if_sound x (λ v. judged.wants (is_some (values.constant_in v)) 10 start v)).notes }
+    ensures made { result ≡ (judged.if_sound x (λ v. judged.wants (is_some (values.constant_in v)) rule.NotConstant start v)).node }
+    ensures noted { book.new ≡ book_after book.old (judged.if_sound x (λ v. judged.wants (is_some (values.constant_in v)) rule.NotConstant start v)).notes }
 {
     match x {
         None => None,

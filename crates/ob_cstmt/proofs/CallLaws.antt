@@ -1,5 +1,5 @@
 -- Calls without parameters, as statements.
-use Rattle.std.proofs.Common.{◌≡◌, refl, sym, ap, ◌∙◌, subst, ℕ, [], ◌∷◌, Bool, true, false, Option, Some, None, Result, IfOk, OnOk}
+use Rattle.std.proofs.Common.{◌≡◌, refl, sym, ap, ◌∙◌, subst, [], ◌∷◌, Bool, true, false, Option, Some, None, Result, IfOk, OnOk}
 use Rattle.ob_tree.specs.declared.pos.Pos.{Pos}
 use Rattle.ob_rules.specs.declared.broken.Predeclared.{Predeclared}
 use Rattle.ob_rules.specs.declared.broken.Predeclared.TheVariants as pre
@@ -8,6 +8,8 @@ use Rattle.ob_rules.specs.declared.meant.Meant.TheVariants as means
 use Rattle.ob_rules.specs.declared.meant.Where.TheVariants.{AsStatement}
 use Rattle.ob_rules.specs.declared.notes.Notebook.{Notebook}
 use Rattle.ob_rules.specs.declared.values.Valued.{Valued}
+use Rattle.ob_rules.specs.declared.broken.Rule.TheVariants as rule
+use Rattle.ob_rules.specs.declared.broken.Rule.{Rule}
 use Rattle.ob_rules.specs.Judged.{Judged, Notes, if_sound, joined, no_notes, notes_if, broken_at, also, ◌▷◌}
 use Rattle.ob_rules.specs.Books.{book_after}
 use Rattle.ob_rules.specs.Names.{Around}
@@ -42,7 +44,7 @@ pub value_noted : (j : Judged Valued) (k : Notebook) → book_after k (j ▷ cal
 value_noted j k = value_quiet j.node j.notes k
 
 -- a predeclared procedure without parameters
-pub predeclared_is : (u : Around) (at : Pos) (f : Predeclared) → call_meant u AsStatement at (means.Predeclared f) [] ≡ record { node = None; notes = joined (notes_if (is_function f) 27 at) (broken_at 28 at) }
+pub predeclared_is : (u : Around) (at : Pos) (f : Predeclared) → call_meant u AsStatement at (means.Predeclared f) [] ≡ record { node = None; notes = joined (notes_if (is_function f) rule.MisplacedCall at) (broken_at rule.UnfitPredeclaredParameters at) }
 predeclared_is u at pre.Abs = refl
 predeclared_is u at f = refl
 
@@ -51,9 +53,9 @@ pub silent_noted : (k : Notebook) (n : Notes) → book_after k n ≡ book_after 
 silent_noted k n = sym (after_none (book_after k n)) ∙ after_joined k n no_notes
 
 -- a rule that is broken besides
-pub also_noted : {A : Type 0} (b : Bool) (rule : ℕ) (at : Pos) (j : Judged A) (k : Notebook) → book_after (book_after k (notes_if b rule at)) j.notes ≡ book_after k (also b rule at j).notes
-also_noted true rule at j k = after_joined k (broken_at rule at) j.notes
-also_noted false rule at j k = ap (λ x. book_after x j.notes) (after_none k)
+pub also_noted : {A : Type 0} (b : Bool) (which : Rule) (at : Pos) (j : Judged A) (k : Notebook) → book_after (book_after k (notes_if b which at)) j.notes ≡ book_after k (also b which at j).notes
+also_noted true which at j k = after_joined k (broken_at which at) j.notes
+also_noted false which at j k = ap (λ x. book_after x j.notes) (after_none k)
 
 -- a call of a bound procedure, of whether its nearest declaration is sound
 pub bound_made : {E : Type 0} (r : Result (Option StmtTree) E) (u : Around) (at : Pos) (c : Chosen) (b : Bool) → b ≡ calls.nearest_sound u 201 (calls.where_from c c.base) c.method.name

@@ -22,7 +22,7 @@ use ob_cexpr_call::{
 };
 use ob_cexpr_name::{tree_of, types};
 use ob_cexpr_predeclared::is_function;
-use ob_rules::{Chosen, Meant, Notebook, Place, Predeclared, Surroundings, Valued, Where};
+use ob_rules::{Chosen, Meant, Notebook, Place, Predeclared, Rule, Surroundings, Valued, Where};
 use ob_tree::{Designator, Pos, QName, Selector};
 use ob_types::{OutProcedure, Signature, signature_within};
 use ob_types_trees::{ActualTrees, StmtTree, copy_type};
@@ -97,7 +97,7 @@ fn nearest_called<S: Surroundings>(
     ensures noted { OnOk result (book.new ≡ book_after book.old (designators.as_call (calls.call_bound_sound true (S.around here.now) AsStatement start chosen []) ▷ spec.done).notes) }
 {
     let broken = is_receiver_read_only(&chosen);
-    book.breaks_if(broken, 26, start);
+    book.breaks_if(broken, Rule::NotChangeable, start);
     let none = no_actuals(alloc);
     let call = call_bound(alloc, book, Where::AsStatement, start, chosen, 0, none)?;
     let sound = unless_broken(broken, call);
@@ -132,8 +132,8 @@ fn predeclared_called<S: Surroundings>(
     ensures made { stmt_in result ≡ (designators.call_meant (S.around here.now) AsStatement start (means.Predeclared procedure) [] ▷ spec.done).node }
     ensures noted { book.new ≡ book_after book.old (designators.call_meant (S.around here.now) AsStatement start (means.Predeclared procedure) [] ▷ spec.done).notes }
 {
-    book.breaks_if(is_function(procedure), 27, start);
-    book.breaks(28, start);
+    book.breaks_if(is_function(procedure), Rule::MisplacedCall, start);
+    book.breaks(Rule::UnfitPredeclaredParameters, start);
     None
 }
 
@@ -167,7 +167,7 @@ fn place_called<S: Surroundings>(
 {
     match signature {
         None => {
-            book.breaks(27, start);
+            book.breaks(Rule::MisplacedCall, start);
             Ok(None)
         }
         Some(signature) => variable_called(alloc, here, book, start, place, signature),
@@ -204,7 +204,7 @@ fn called<S: Surroundings>(
     match meant {
         Meant::Place(place) => place_meant(alloc, here, book, start, place),
         Meant::Constant(_) => {
-            book.breaks(3, constant_at(d));
+            book.breaks(Rule::WrongKind, constant_at(d));
             Ok(None)
         }
         Meant::Call(x) => Ok(Some(StmtTree::call(tree_of(x)))),

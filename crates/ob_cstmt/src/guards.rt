@@ -12,7 +12,7 @@ ghost use Rattle.ob_cstmt_parts.specs.Seen.{test_in};
 use ob_cexpr::check_designator;
 use ob_cexpr_name::{named, type_named, types};
 use ob_cstmt_parts::{Test, first_of, guarded_if, tested_if};
-use ob_rules::{Entity, Meant, Notebook, Place, Surroundings, Where};
+use ob_rules::{Entity, Meant, Notebook, Place, Rule, Surroundings, Where};
 use ob_tree::{Designator, Guard, Ident, List, Mention, Qualident, Selector};
 use std::alloc::{AllocError, Global};
 
@@ -75,7 +75,7 @@ fn in_unit<S: Surroundings>(
         | Entity::Predeclared(_)
         | Entity::LeftOut
         | Entity::Unsound => {
-            book.breaks(3, unit.pos);
+            book.breaks(Rule::WrongKind, unit.pos);
             Ok(None)
         }
     }
@@ -109,12 +109,12 @@ fn behind_unit<S: Surroundings>(
 {
     match here.known(&unit.name) {
         None => {
-            book.breaks(2, unit.pos);
+            book.breaks(Rule::NotDeclared, unit.pos);
             Ok(None)
         }
         Some(known) => match &known.what {
             Entity::Variable(_, _) => {
-                book.breaks(3, unit.pos);
+                book.breaks(Rule::WrongKind, unit.pos);
                 Ok(None)
             }
             Entity::Module(_)

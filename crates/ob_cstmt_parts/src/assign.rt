@@ -11,7 +11,7 @@ ghost use Rattle.ob_cstmt_parts.specs.Seen.{stmt_in};
 
 use ob_cexpr_designator::{front_of, variable_named};
 use ob_cexpr_name::{fits, has_text, is_array, named, record_of, text_tree, tree_of};
-use ob_rules::{Entity, Meant, Notebook, Place, Surroundings, Valued};
+use ob_rules::{Entity, Meant, Notebook, Place, Rule, Surroundings, Valued};
 use ob_tree::{Ident, Pos, QName};
 use ob_types::{Assigned, Types};
 use ob_types_trees::{ExprTree, StmtTree, copy_name};
@@ -23,7 +23,7 @@ fn target(book: &mut Notebook, start: Pos, meant: Meant) -> Option<Place>
     ensures noted { book.new ≡ book_after book.old (spec.target start meant).notes }
 {
     match meant {
-        Meant::Place(place) => book.unless(place.read_only, 26, start, place),
+        Meant::Place(place) => book.unless(place.read_only, Rule::NotChangeable, start, place),
         Meant::Constant(_)
         | Meant::Procedure(_, _)
         | Meant::Bound(_)
@@ -31,7 +31,7 @@ fn target(book: &mut Notebook, start: Pos, meant: Meant) -> Option<Place>
         | Meant::Predeclared(_)
         | Meant::Call(_)
         | Meant::Statement(_) => {
-            book.breaks(26, start);
+            book.breaks(Rule::NotChangeable, start);
             None
         }
     }
@@ -55,7 +55,7 @@ fn place_target(book: &mut Notebook, start: Pos, place: Option<Place>) -> Option
 {
     match place {
         None => None,
-        Some(place) => book.unless(place.read_only, 26, start, place),
+        Some(place) => book.unless(place.read_only, Rule::NotChangeable, start, place),
     }
 }
 
@@ -166,7 +166,7 @@ fn assigns<T: Types>(
     ensures noted { OnOk result (book.new ≡ book_after book.old (spec.assigns (T.types types.now) at place x).notes) }
 {
     if !fits(types, &place.of, &x) {
-        book.breaks(31, at);
+        book.breaks(Rule::NotAssignable, at);
         return Ok(None);
     }
     let assigned = assignment_of(types, &place, &x)?;

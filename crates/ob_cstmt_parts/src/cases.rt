@@ -9,7 +9,7 @@ ghost use Rattle.ob_rules.specs.Judged.{if_sound, paired};
 ghost use Rattle.ob_rules.specs.Statements as spec;
 
 use ob_cexpr_name::{is, width};
-use ob_rules::{Notebook, Selects, Valued};
+use ob_rules::{Notebook, Rule, Selects, Valued};
 use ob_tree::Pos;
 use ob_types::{Basic, Label, Types, Value, Width};
 
@@ -47,7 +47,7 @@ pub fn case_value_if<T: Types>(
         None => None,
         Some(value) => {
             let fit = selects(types, &value).is_some();
-            book.wants(fit, 33, start, value)
+            book.wants(fit, Rule::UnfitCase, start, value)
         }
     }
 }
@@ -119,7 +119,7 @@ fn ranged(book: &mut Notebook, at: Pos, before: &[Label], low: i32, high: i32) -
     if low <= high && !occurs(before, low, high) {
         Some(Label { low, high })
     } else {
-        book.breaks(33, at);
+        book.breaks(Rule::UnfitCase, at);
         None
     }
 }
@@ -136,12 +136,12 @@ fn label_of(
 {
     match low {
         None => {
-            book.breaks(33, at);
+            book.breaks(Rule::UnfitCase, at);
             None
         }
         Some(low) => match high {
             None => {
-                book.breaks(33, at);
+                book.breaks(Rule::UnfitCase, at);
                 None
             }
             Some(high) => ranged(book, at, before, low, high),

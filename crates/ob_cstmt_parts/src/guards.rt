@@ -10,7 +10,7 @@ ghost use Rattle.ob_cstmt_parts.specs.Seen.{expr_in, test_in};
 
 use ob_cexpr_designator::guard_of;
 use ob_cexpr_name::is_pointer;
-use ob_rules::{Entity, Known, Meant, Notebook, Place, Surroundings};
+use ob_rules::{Entity, Known, Meant, Notebook, Place, Rule, Surroundings};
 use ob_tree::{CompactName, Ident, Pos, QName, Qualident};
 use ob_types::{Guarded, TypeRef, Types, Variable};
 use ob_types_trees::{ExprTree, copy_type, copy_variable};
@@ -41,7 +41,7 @@ pub fn guarded_if<T: Types>(
         None => None,
         Some(Meant::Place(place)) => {
             let fit = is_pointer(types, &place.of) || place.var_record;
-            book.wants(fit, 37, at, place)
+            book.wants(fit, Rule::UnfitWith, at, place)
         }
         Some(
             Meant::Constant(_)
@@ -52,7 +52,7 @@ pub fn guarded_if<T: Types>(
             | Meant::Call(_)
             | Meant::Statement(_),
         ) => {
-            book.breaks(37, at);
+            book.breaks(Rule::UnfitWith, at);
             None
         }
     }
@@ -97,7 +97,7 @@ fn tested<T: Types>(
 {
     match guard_of(types, &place, &of)? {
         None => {
-            book.breaks(37, at);
+            book.breaks(Rule::UnfitWith, at);
             Ok(None)
         }
         Some((guarded, target)) => {

@@ -10,7 +10,7 @@ ghost use Rattle.ob_cstmt_parts.specs.Seen.{expr_in, for_node, for_parts_node, s
 
 use ob_cexpr_designator::variable_named;
 use ob_cexpr_name::{basic_of, fits, named, tree_of, types};
-use ob_rules::{Entity, Notebook, Place, Surroundings, Valued};
+use ob_rules::{Entity, Notebook, Place, Rule, Surroundings, Valued};
 use ob_tree::{Ident, Pos};
 use ob_types::{Basic, Types, Value, Width};
 use ob_types_trees::{ExprTree, StmtTree, StmtTrees};
@@ -41,7 +41,7 @@ fn integer_place<T: Types>(
         None => None,
         Some(place) => {
             let fit = width_of(basic_of(types, &place.of)).is_some();
-            book.wants(fit, 34, at, place)
+            book.wants(fit, Rule::UnfitFor, at, place)
         }
     }
 }
@@ -63,7 +63,7 @@ fn entity_variable<S: Surroundings>(
             Ok(integer_place(types(here), book, at, place))
         }
         Entity::TypeName(_) | Entity::Module(_) => {
-            book.breaks(3, x.pos);
+            book.breaks(Rule::WrongKind, x.pos);
             Ok(None)
         }
         Entity::Constant(_)
@@ -72,7 +72,7 @@ fn entity_variable<S: Surroundings>(
         | Entity::Predeclared(_)
         | Entity::LeftOut
         | Entity::Unsound => {
-            book.breaks(34, at);
+            book.breaks(Rule::UnfitFor, at);
             Ok(None)
         }
     }
@@ -109,7 +109,7 @@ pub fn for_bound<T: Types>(
     if fits(types, &place.of, &x) {
         Some(tree_of(x))
     } else {
-        book.breaks(34, at);
+        book.breaks(Rule::UnfitFor, at);
         None
     }
 }
@@ -120,9 +120,9 @@ pub fn step_value(book: &mut Notebook, at: Pos, value: &Value) -> Option<i32>
     ensures noted { book.new ≡ book_after book.old (spec.step_value at value.now).notes }
 {
     match value {
-        Value::Int(n) => book.unless(*n == 0, 34, at, *n),
+        Value::Int(n) => book.unless(*n == 0, Rule::UnfitFor, at, *n),
         _ => {
-            book.breaks(34, at);
+            book.breaks(Rule::UnfitFor, at);
             None
         }
     }

@@ -7,7 +7,7 @@ ghost use Rattle.ob_rules.specs.Statements as spec;
 ghost use Rattle.ob_cstmt_parts.specs.Seen.{stmt_in};
 
 use ob_cexpr_name::{fits, tree_of};
-use ob_rules::{Notebook, Surroundings, Valued};
+use ob_rules::{Notebook, Rule, Surroundings, Valued};
 use ob_tree::Pos;
 use ob_types::{TypeRef, Types};
 use ob_types_trees::StmtTree;
@@ -20,7 +20,7 @@ pub fn exit<S: Surroundings>(here: &S, book: &mut Notebook, at: Pos) -> Option<S
     if here.in_loop() {
         Some(StmtTree::exit())
     } else {
-        book.breaks(35, at);
+        book.breaks(Rule::MisplacedExit, at);
         None
     }
 }
@@ -32,7 +32,7 @@ fn return_none(book: &mut Notebook, at: Pos, of: Option<&TypeRef>) -> Option<Stm
     match of {
         None => Some(StmtTree::leave(None)),
         Some(_) => {
-            book.breaks(36, at);
+            book.breaks(Rule::UnfitReturn, at);
             None
         }
     }
@@ -52,14 +52,14 @@ pub fn returned<T: Types>(
 {
     match of {
         None => {
-            book.breaks(36, at);
+            book.breaks(Rule::UnfitReturn, at);
             None
         }
         Some(t) => {
             if fits(types, t, &x) {
                 Some(StmtTree::leave(Some(tree_of(x))))
             } else {
-                book.breaks(36, at);
+                book.breaks(Rule::UnfitReturn, at);
                 None
             }
         }

@@ -15,6 +15,7 @@ use crate::tables::{places_of_parameters, places_of_variables};
 use ob_gexpr_code::{Code, GenFault, Scope};
 use ob_gstmt::put_stmts;
 use ob_instr::{Opcode, Procedure};
+use ob_trap::Trap;
 use ob_tree::{List, Pos};
 use ob_types::{TypeRef, TypedParameter, TypedProcedure, TypedStmt, TypedVariable, Types};
 use std::alloc::Global;
@@ -24,7 +25,12 @@ fn put_closing(code: &mut Code, outcome: &Option<TypeRef>, pos: Pos) -> Result<(
 {
     match outcome {
         None => code.put(Opcode::Ret, 0, 0, None),
-        Some(_) => code.put(Opcode::Trap, 6, 0, Some(pos)),
+        Some(_) => code.put(
+            Opcode::Trap,
+            i32::from(Trap::NoReturn.number()),
+            0,
+            Some(pos),
+        ),
     }
 }
 

@@ -2,6 +2,7 @@
 use Rattle.std.specs.Prelude.{ℤ, pos}
 use Rattle.std.proofs.Common.{◌≡◌, ℕ, suc, ◌+◌, ◌<◌, ◌≤◌, List, [], ◌∷◌, ◌++◌, length, get_or, drop, append_assoc, length-append, arith, sym, ap, ◌∙◌}
 use Rattle.std.proofs.lemmas.List.{drop_more, drop_all}
+use Rattle.ob_trap.specs.declared.trap.Trap.TheVariants as trap
 use Rattle.ob_tree.specs.declared.pos.Pos.{Pos}
 use Rattle.ob_types.specs.declared.typed.Width.{Width}
 use Rattle.ob_types.specs.declared.typed.Variable.{Variable}
@@ -59,18 +60,18 @@ if_put c bs o t u x e c0 c1 c2 f h1 g h2 =
     (h2 ∙ ap (λ n. appended c1 (stmts_code c o n u x)) l1 ∙ ap (λ n. appended c1 (stmts_code c o p1 n x)) g)
 
 -- WITH: its branches, and what stands behind ELSE, or the trap
-pub with_put : (c : Context) (bs : Branches) (o : Otherwise) (at : Pos) (t u x e : ℕ) (c0 c1 c2 : Coded) → e ≡ end_else c o (end_branches c bs (place_in c0)) → c1 ≡ appended c0 (branches_code c bs (place_in c0) t x e) → u ≡ next_branches c bs t → c2 ≡ appended c1 (else_code c 5 at o (place_in c1) u x) → c2 ≡ appended c0 (stmt_code c (With bs o at) (place_in c0) t x)
+pub with_put : (c : Context) (bs : Branches) (o : Otherwise) (at : Pos) (t u x e : ℕ) (c0 c1 c2 : Coded) → e ≡ end_else c o (end_branches c bs (place_in c0)) → c1 ≡ appended c0 (branches_code c bs (place_in c0) t x e) → u ≡ next_branches c bs t → c2 ≡ appended c1 (else_code c trap.NoMatch at o (place_in c1) u x) → c2 ≡ appended c0 (stmt_code c (With bs o at) (place_in c0) t x)
 with_put c bs o at t u x e c0 c1 c2 f h1 g h2 =
     let pc = place_in c0 in
     let p1 = end_branches c bs pc in
     let end = end_else c o p1 in
     let k1 : c1 ≡ appended c0 (branches_code c bs pc t x end) = h1 ∙ ap (λ n. appended c0 (branches_code c bs pc t x n)) f in
     let l1 = next_place c0 c1 (branches_code c bs pc t x end) p1 k1 (branches_end c bs pc t x end) in
-    put_two c0 c1 c2 (branches_code c bs pc t x end) (else_code c 5 at o p1 (next_branches c bs t) x) k1
-    (h2 ∙ ap (λ n. appended c1 (else_code c 5 at o n u x)) l1 ∙ ap (λ n. appended c1 (else_code c 5 at o p1 n x)) g)
+    put_two c0 c1 c2 (branches_code c bs pc t x end) (else_code c trap.NoMatch at o p1 (next_branches c bs t) x) k1
+    (h2 ∙ ap (λ n. appended c1 (else_code c trap.NoMatch at o n u x)) l1 ∙ ap (λ n. appended c1 (else_code c trap.NoMatch at o p1 n x)) g)
 
 -- CASE: its value in a word, its cases, and what stands behind ELSE, or the trap
-pub case_put : (c : Context) (v : Expr) (cs : Cases) (o : Otherwise) (at : Pos) (t s u x e : ℕ) (c0 c1 c2 c3 : Coded) → e ≡ end_else c o (end_cases c cs (suc (end_expr c want.Value v (suc (place_in c0))))) → c1 ≡ appended c0 (plain op.Local (count t) ∷ (expr_code c want.Value v (suc (place_in c0)) ++ bare op.Store ∷ [])) → s ≡ suc t → c2 ≡ appended c1 (cases_code c t cs (place_in c1) s x e) → u ≡ next_cases c cs s → c3 ≡ appended c2 (else_code c 4 at o (place_in c2) u x) → c3 ≡ appended c0 (stmt_code c (Case v cs o at) (place_in c0) t x)
+pub case_put : (c : Context) (v : Expr) (cs : Cases) (o : Otherwise) (at : Pos) (t s u x e : ℕ) (c0 c1 c2 c3 : Coded) → e ≡ end_else c o (end_cases c cs (suc (end_expr c want.Value v (suc (place_in c0))))) → c1 ≡ appended c0 (plain op.Local (count t) ∷ (expr_code c want.Value v (suc (place_in c0)) ++ bare op.Store ∷ [])) → s ≡ suc t → c2 ≡ appended c1 (cases_code c t cs (place_in c1) s x e) → u ≡ next_cases c cs s → c3 ≡ appended c2 (else_code c trap.NoCase at o (place_in c2) u x) → c3 ≡ appended c0 (stmt_code c (Case v cs o at) (place_in c0) t x)
 case_put c v cs o at t s u x e c0 c1 c2 c3 f h1 i h2 g h3 =
     let pc = place_in c0 in
     let a = expr_code c want.Value v (suc pc) in
@@ -84,9 +85,9 @@ case_put c v cs o at t s u x e c0 c1 c2 c3 f h1 i h2 g h3 =
     let k2 : c2 ≡ appended c1 b = h2 ∙ ap (λ n. appended c1 (cases_code c t cs n s x e)) l1 ∙ ap (λ n. appended c1 (cases_code c t cs p1 n x e)) i ∙ ap (λ n. appended c1 (cases_code c t cs p1 (suc t) x n)) f in
     let n2 : p2 ≡ place_in c1 + length b = let k = cases_end c t cs p1 (suc t) x end in let m = l1 in omega (arith, k, m) in
     let l2 = next_place c1 c2 b p2 k2 n2 in
-    let d = else_code c 4 at o p2 (next_cases c cs (suc t)) x in
+    let d = else_code c trap.NoCase at o p2 (next_cases c cs (suc t)) x in
     let w : u ≡ next_cases c cs (suc t) = g ∙ ap (next_cases c cs) i in
-    let k3 : c3 ≡ appended c2 d = h3 ∙ ap (λ n. appended c2 (else_code c 4 at o n u x)) l2 ∙ ap (λ n. appended c2 (else_code c 4 at o p2 n x)) w in
+    let k3 : c3 ≡ appended c2 d = h3 ∙ ap (λ n. appended c2 (else_code c trap.NoCase at o n u x)) l2 ∙ ap (λ n. appended c2 (else_code c trap.NoCase at o p2 n x)) w in
     put_three c0 c1 c2 c3 first b d h1 k2 k3
     ∙ ap (λ l. appended c0 (plain op.Local (count t) ∷ l)) (append_assoc a (bare op.Store ∷ []) (b ++ d))
 

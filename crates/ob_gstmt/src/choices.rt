@@ -5,10 +5,12 @@ ghost use Rattle.ob_scheme.specs.Lines.{Number, plain, placed, bare, count, jump
 ghost use Rattle.ob_scheme.specs.Context.{Context};
 ghost use Rattle.ob_scheme.specs.Coded.{Coded, appended, place_in};
 ghost use Rattle.ob_scheme.specs.Statements.{label_code, labels_code};
+ghost use Rattle.ob_trap.specs.Numbers.{trap_number};
 
 use crate::loops::put_word;
 use ob_gexpr_code::{Code, GenFault, Scope, put_bare, put_jump, put_placed, put_plain};
 use ob_instr::Opcode;
+use ob_trap::Trap;
 use ob_tree::{Pos, Which};
 use ob_types::Label;
 
@@ -94,8 +96,8 @@ pub fn body_behind(pc: usize, labels: usize) -> Result<usize, GenFault>
 }
 
 /// The trap where no branch or case is taken.
-pub fn put_none_taken(code: &mut Code, kind: i32, at: Pos) -> Result<(), GenFault>
-    ensures { OnOk result (code.new ≡ appended code.old (placed Opcode.Trap (Number kind) at ∷ [])) }
+pub fn put_none_taken(code: &mut Code, kind: Trap, at: Pos) -> Result<(), GenFault>
+    ensures { OnOk result (code.new ≡ appended code.old (placed Opcode.Trap (count (trap_number kind)) at ∷ [])) }
 {
-    put_placed(code, Opcode::Trap, kind, at)
+    put_placed(code, Opcode::Trap, i32::from(kind.number()), at)
 }

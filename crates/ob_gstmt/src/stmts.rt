@@ -17,6 +17,7 @@ use ob_gexpr_code::{Code, GenFault, Scope, put_jump, put_jump_back};
 use ob_gstmt_labels::end_stmt;
 use ob_instr::Opcode;
 use ob_scheme::Want;
+use ob_trap::Trap;
 use ob_tree::Which;
 use ob_types::{TypedBranch, TypedCase, TypedStmt};
 
@@ -121,7 +122,7 @@ pub fn put_stmt<S: Scope>(
             let next = put_cases(code, scope, hidden, exit, first, end, cases.as_slice())?;
             match otherwise {
                 None => {
-                    put_none_taken(code, 4, *pos)?;
+                    put_none_taken(code, Trap::NoCase, *pos)?;
                     Ok(next)
                 }
                 Some(body) => put_stmts(code, scope, exit, next, body.as_slice()),
@@ -189,7 +190,7 @@ pub fn put_stmt<S: Scope>(
             let next = put_branches(code, scope, exit, hidden, end, branches.as_slice())?;
             match otherwise {
                 None => {
-                    put_none_taken(code, 5, *pos)?;
+                    put_none_taken(code, Trap::NoMatch, *pos)?;
                     Ok(next)
                 }
                 Some(body) => put_stmts(code, scope, exit, next, body.as_slice()),

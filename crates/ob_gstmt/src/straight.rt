@@ -20,6 +20,7 @@ use ob_gexpr_code::{
 };
 use ob_instr::Opcode;
 use ob_scheme::{Want, has_tag, want_for_source, want_for_target};
+use ob_trap::Trap;
 use ob_tree::{Pos, QName, Which};
 use ob_types::{Assigned, Designator, Made, TypeRef, TypedExpr, Update, Value};
 
@@ -278,7 +279,12 @@ pub fn put_halt<S: Scope>(code: &mut Code, scope: &S, number: &i32, at: Pos) -> 
     ensures { OnOk result (code.new ≡ appended code.old (straight_code (S.context scope.now) (Halt number.now at) (place_in code.old))) }
 {
     let _scope = scope;
-    code.put(Opcode::Trap, 11, *number, Some(at))
+    code.put(
+        Opcode::Trap,
+        i32::from(Trap::Halted.number()),
+        *number,
+        Some(at),
+    )
 }
 
 /// RETURN

@@ -3,6 +3,10 @@ use Rattle.std.proofs.Common.{◌≡◌, ℕ, suc, List, [], ◌∷◌, ◌++◌
 use Rattle.std.specs.Prelude.{ℤ, pos, ◌+◌, ◌*◌, ◌+ℤ◌, ◌-ℤ◌, ◌*ℤ◌, neg_ℤ, int_lt, Bool, true, false, not, nat_lt, nat_le, slice_get, if◌then◌else◌}
 use Rattle.std.specs.Int.{w32, int_div_euclid, int_rem_euclid, int_bit_and, int_bit_or, int_bit_xor, int_bit_not}
 use Rattle.std.specs.Ordering.{int_eq}
+use Rattle.ob_trap.specs.declared.trap.Trap.{Trap}
+use Rattle.ob_trap.specs.declared.trap.Trap.TheVariants as trap
+use Rattle.ob_trap.specs.NumberLaws.{trap_again}
+use Rattle.ob_trap.specs.Numbers.{trap_number}
 use Rattle.ob_tree.specs.declared.proc_ref.ProcRef.{ProcRef}
 use Rattle.ob_mem.specs.Words.{word_at, are_there, stored, copied}
 use Rattle.ob_tdesc.specs.declared.descriptor.Descriptor.{Descriptor}
@@ -55,7 +59,7 @@ module _ (img : Image) (u : ModuleImage) (m p fb pc : ℕ) (w : World) where
   pub copy_rec_next : (d g s : ℤ) (n b t : ℕ) (l : List ℤ) (ops : List ℤ) → slice_get u.types b ≡ Some t → copied w.words d s n ≡ Some l → int_eq g (tag t) ≡ true → R op.CopyRec (pos n) (pos b) (s ∷ g ∷ d ∷ ops) ≡ Next ops (with_memory w l)
   copy_rec_next d g s n b t l ops e f h = rw (e, f, h) refl
 
-  pub copy_rec_traps : (d g s : ℤ) (n b t : ℕ) (l : List ℤ) (ops : List ℤ) → slice_get u.types b ≡ Some t → copied w.words d s n ≡ Some l → int_eq g (tag t) ≡ false → R op.CopyRec (pos n) (pos b) (s ∷ g ∷ d ∷ ops) ≡ Traps 14 (pos 0) w
+  pub copy_rec_traps : (d g s : ℤ) (n b t : ℕ) (l : List ℤ) (ops : List ℤ) → slice_get u.types b ≡ Some t → copied w.words d s n ≡ Some l → int_eq g (tag t) ≡ false → R op.CopyRec (pos n) (pos b) (s ∷ g ∷ d ∷ ops) ≡ Traps trap.OtherType (pos 0) w
   copy_rec_traps d g s n b t l ops e f h = rw (e, f, h) refl
 
   pub offset_next : (x a : ℤ) (ops : List ℤ) → in_width 4 (x +ℤ a) ≡ true → R op.Offset a (pos 0) (x ∷ ops) ≡ Next ((x +ℤ a) ∷ ops) w
@@ -64,25 +68,25 @@ module _ (img : Image) (u : ModuleImage) (m p fb pc : ℕ) (w : World) where
   pub index_next : (x i a b : ℤ) (ops : List ℤ) → is_within i a ≡ true → in_width 4 (x +ℤ (i *ℤ b)) ≡ true → R op.Index a b (i ∷ x ∷ ops) ≡ Next ((x +ℤ (i *ℤ b)) ∷ ops) w
   index_next x i a b ops e f = rw (e, f) refl
 
-  pub index_traps : (x i a b : ℤ) (ops : List ℤ) → is_within i a ≡ false → R op.Index a b (i ∷ x ∷ ops) ≡ Traps 1 (pos 0) w
+  pub index_traps : (x i a b : ℤ) (ops : List ℤ) → is_within i a ≡ false → R op.Index a b (i ∷ x ∷ ops) ≡ Traps trap.IndexOutside (pos 0) w
   index_traps x i a b ops e = rw e refl
 
   pub index_o_next : (x l i a : ℤ) (ops : List ℤ) → is_within i l ≡ true → in_width 4 (x +ℤ (i *ℤ a)) ≡ true → R op.IndexO a (pos 0) (i ∷ l ∷ x ∷ ops) ≡ Next ((x +ℤ (i *ℤ a)) ∷ ops) w
   index_o_next x l i a ops e f = rw (e, f) refl
 
-  pub index_o_traps : (x l i a : ℤ) (ops : List ℤ) → is_within i l ≡ false → R op.IndexO a (pos 0) (i ∷ l ∷ x ∷ ops) ≡ Traps 1 (pos 0) w
+  pub index_o_traps : (x l i a : ℤ) (ops : List ℤ) → is_within i l ≡ false → R op.IndexO a (pos 0) (i ∷ l ∷ x ∷ ops) ≡ Traps trap.IndexOutside (pos 0) w
   index_o_traps x l i a ops e = rw e refl
 
   pub deref_next : (x : ℤ) (ops : List ℤ) → is_zero x ≡ false → R op.Deref (pos 0) (pos 0) (x ∷ ops) ≡ Next (x ∷ ops) w
   deref_next x ops e = rw e refl
 
-  pub deref_traps : (ops : List ℤ) → R op.Deref (pos 0) (pos 0) (pos 0 ∷ ops) ≡ Traps 2 (pos 0) w
+  pub deref_traps : (ops : List ℤ) → R op.Deref (pos 0) (pos 0) (pos 0 ∷ ops) ≡ Traps trap.Nil (pos 0) w
   deref_traps ops = refl
 
-  pub tagged_traps : (ops : List ℤ) → R op.Tagged (pos 0) (pos 0) (pos 0 ∷ ops) ≡ Traps 2 (pos 0) w
+  pub tagged_traps : (ops : List ℤ) → R op.Tagged (pos 0) (pos 0) (pos 0 ∷ ops) ≡ Traps trap.Nil (pos 0) w
   tagged_traps ops = refl
 
-  pub lenned_traps : (ops : List ℤ) → R op.Lenned (pos 0) (pos 0) (pos 0 ∷ ops) ≡ Traps 2 (pos 0) w
+  pub lenned_traps : (ops : List ℤ) → R op.Lenned (pos 0) (pos 0) (pos 0 ∷ ops) ≡ Traps trap.Nil (pos 0) w
   lenned_traps ops = refl
 
   pub tagged_next : (x g : ℤ) (ops : List ℤ) → is_zero x ≡ false → word_at w.words (x -ℤ pos 1) ≡ Some g → R op.Tagged (pos 0) (pos 0) (x ∷ ops) ≡ Next (g ∷ x ∷ ops) w
@@ -106,10 +110,10 @@ module _ (img : Image) (u : ModuleImage) (m p fb pc : ℕ) (w : World) where
   pub guard_r_next : (x : ℤ) (a t : ℕ) (ops : List ℤ) → slice_get u.types a ≡ Some t → tag_passes img.types x t ≡ Some true → R op.GuardR (pos a) (pos 0) (x ∷ ops) ≡ Next (x ∷ ops) w
   guard_r_next x a t ops e f = rw (e, f) refl
 
-  pub guard_at_traps : (x v : ℤ) (a t : ℕ) (ops : List ℤ) → slice_get u.types a ≡ Some t → word_at w.words x ≡ Some v → pointer_passes img.types w.words v t ≡ Some false → R op.GuardAt (pos a) (pos 0) (x ∷ ops) ≡ Traps 3 (pos 0) w
+  pub guard_at_traps : (x v : ℤ) (a t : ℕ) (ops : List ℤ) → slice_get u.types a ≡ Some t → word_at w.words x ≡ Some v → pointer_passes img.types w.words v t ≡ Some false → R op.GuardAt (pos a) (pos 0) (x ∷ ops) ≡ Traps trap.GuardFails (pos 0) w
   guard_at_traps x v a t ops e f h = rw (e, f, h) refl
 
-  pub guard_r_traps : (x : ℤ) (a t : ℕ) (ops : List ℤ) → slice_get u.types a ≡ Some t → tag_passes img.types x t ≡ Some false → R op.GuardR (pos a) (pos 0) (x ∷ ops) ≡ Traps 3 (pos 0) w
+  pub guard_r_traps : (x : ℤ) (a t : ℕ) (ops : List ℤ) → slice_get u.types a ≡ Some t → tag_passes img.types x t ≡ Some false → R op.GuardR (pos a) (pos 0) (x ∷ ops) ≡ Traps trap.GuardFails (pos 0) w
   guard_r_traps x a t ops e f = rw (e, f) refl
 
   pub drop_next : (v : ℤ) (ops : List ℤ) → R op.Drop (pos 0) (pos 0) (v ∷ ops) ≡ Next ops w
@@ -118,49 +122,49 @@ module _ (img : Image) (u : ModuleImage) (m p fb pc : ℕ) (w : World) where
   pub add_next : (n : ℕ) (x y : ℤ) (ops : List ℤ) → IsWidth n → in_width n (x +ℤ y) ≡ true → R op.Add (pos n) (pos 0) (y ∷ x ∷ ops) ≡ Next ((x +ℤ y) ∷ ops) w
   add_next n x y ops h e = h (λ k. in_type k (x +ℤ y) ops w) ∙ rw e refl
 
-  pub add_traps : (n : ℕ) (x y : ℤ) (ops : List ℤ) → IsWidth n → in_width n (x +ℤ y) ≡ false → R op.Add (pos n) (pos 0) (y ∷ x ∷ ops) ≡ Traps 8 (pos 0) w
+  pub add_traps : (n : ℕ) (x y : ℤ) (ops : List ℤ) → IsWidth n → in_width n (x +ℤ y) ≡ false → R op.Add (pos n) (pos 0) (y ∷ x ∷ ops) ≡ Traps trap.Overflow (pos 0) w
   add_traps n x y ops h e = h (λ k. in_type k (x +ℤ y) ops w) ∙ rw e refl
 
   pub sub_next : (n : ℕ) (x y : ℤ) (ops : List ℤ) → IsWidth n → in_width n (x -ℤ y) ≡ true → R op.Sub (pos n) (pos 0) (y ∷ x ∷ ops) ≡ Next ((x -ℤ y) ∷ ops) w
   sub_next n x y ops h e = h (λ k. in_type k (x -ℤ y) ops w) ∙ rw e refl
 
-  pub sub_traps : (n : ℕ) (x y : ℤ) (ops : List ℤ) → IsWidth n → in_width n (x -ℤ y) ≡ false → R op.Sub (pos n) (pos 0) (y ∷ x ∷ ops) ≡ Traps 8 (pos 0) w
+  pub sub_traps : (n : ℕ) (x y : ℤ) (ops : List ℤ) → IsWidth n → in_width n (x -ℤ y) ≡ false → R op.Sub (pos n) (pos 0) (y ∷ x ∷ ops) ≡ Traps trap.Overflow (pos 0) w
   sub_traps n x y ops h e = h (λ k. in_type k (x -ℤ y) ops w) ∙ rw e refl
 
   pub mul_next : (n : ℕ) (x y : ℤ) (ops : List ℤ) → IsWidth n → in_width n (x *ℤ y) ≡ true → R op.Mul (pos n) (pos 0) (y ∷ x ∷ ops) ≡ Next ((x *ℤ y) ∷ ops) w
   mul_next n x y ops h e = h (λ k. in_type k (x *ℤ y) ops w) ∙ rw e refl
 
-  pub mul_traps : (n : ℕ) (x y : ℤ) (ops : List ℤ) → IsWidth n → in_width n (x *ℤ y) ≡ false → R op.Mul (pos n) (pos 0) (y ∷ x ∷ ops) ≡ Traps 8 (pos 0) w
+  pub mul_traps : (n : ℕ) (x y : ℤ) (ops : List ℤ) → IsWidth n → in_width n (x *ℤ y) ≡ false → R op.Mul (pos n) (pos 0) (y ∷ x ∷ ops) ≡ Traps trap.Overflow (pos 0) w
   mul_traps n x y ops h e = h (λ k. in_type k (x *ℤ y) ops w) ∙ rw e refl
 
   pub div_next : (x y : ℤ) (ops : List ℤ) → int_lt (pos 0) y ≡ true → R op.Div (pos 0) (pos 0) (y ∷ x ∷ ops) ≡ Next (int_div_euclid x y ∷ ops) w
   div_next x y ops e = rw e refl
 
-  pub div_traps : (x y : ℤ) (ops : List ℤ) → int_lt (pos 0) y ≡ false → R op.Div (pos 0) (pos 0) (y ∷ x ∷ ops) ≡ Traps 7 (pos 0) w
+  pub div_traps : (x y : ℤ) (ops : List ℤ) → int_lt (pos 0) y ≡ false → R op.Div (pos 0) (pos 0) (y ∷ x ∷ ops) ≡ Traps trap.NoDivisor (pos 0) w
   div_traps x y ops e = rw e refl
 
   pub mod_next : (x y : ℤ) (ops : List ℤ) → int_lt (pos 0) y ≡ true → R op.Mod (pos 0) (pos 0) (y ∷ x ∷ ops) ≡ Next (int_rem_euclid x y ∷ ops) w
   mod_next x y ops e = rw e refl
 
-  pub mod_traps : (x y : ℤ) (ops : List ℤ) → int_lt (pos 0) y ≡ false → R op.Mod (pos 0) (pos 0) (y ∷ x ∷ ops) ≡ Traps 7 (pos 0) w
+  pub mod_traps : (x y : ℤ) (ops : List ℤ) → int_lt (pos 0) y ≡ false → R op.Mod (pos 0) (pos 0) (y ∷ x ∷ ops) ≡ Traps trap.NoDivisor (pos 0) w
   mod_traps x y ops e = rw e refl
 
   pub neg_next : (n : ℕ) (v : ℤ) (ops : List ℤ) → IsWidth n → in_width n (neg_ℤ v) ≡ true → R op.Neg (pos n) (pos 0) (v ∷ ops) ≡ Next (neg_ℤ v ∷ ops) w
   neg_next n v ops h e = h (λ k. in_type k (neg_ℤ v) ops w) ∙ rw e refl
 
-  pub neg_traps : (n : ℕ) (v : ℤ) (ops : List ℤ) → IsWidth n → in_width n (neg_ℤ v) ≡ false → R op.Neg (pos n) (pos 0) (v ∷ ops) ≡ Traps 8 (pos 0) w
+  pub neg_traps : (n : ℕ) (v : ℤ) (ops : List ℤ) → IsWidth n → in_width n (neg_ℤ v) ≡ false → R op.Neg (pos n) (pos 0) (v ∷ ops) ≡ Traps trap.Overflow (pos 0) w
   neg_traps n v ops h e = h (λ k. in_type k (neg_ℤ v) ops w) ∙ rw e refl
 
   pub abs_next : (n : ℕ) (v : ℤ) (ops : List ℤ) → IsWidth n → in_width n (magnitude v) ≡ true → R op.Abs (pos n) (pos 0) (v ∷ ops) ≡ Next (magnitude v ∷ ops) w
   abs_next n v ops h e = h (λ k. in_type k (magnitude v) ops w) ∙ rw e refl
 
-  pub abs_traps : (n : ℕ) (v : ℤ) (ops : List ℤ) → IsWidth n → in_width n (magnitude v) ≡ false → R op.Abs (pos n) (pos 0) (v ∷ ops) ≡ Traps 8 (pos 0) w
+  pub abs_traps : (n : ℕ) (v : ℤ) (ops : List ℤ) → IsWidth n → in_width n (magnitude v) ≡ false → R op.Abs (pos n) (pos 0) (v ∷ ops) ≡ Traps trap.Overflow (pos 0) w
   abs_traps n v ops h e = h (λ k. in_type k (magnitude v) ops w) ∙ rw e refl
 
   pub range_next : (n : ℕ) (v : ℤ) (ops : List ℤ) → IsWidth n → in_width n (v) ≡ true → R op.Range (pos n) (pos 0) (v ∷ ops) ≡ Next (v ∷ ops) w
   range_next n v ops h e = h (λ k. in_type k (v) ops w) ∙ rw e refl
 
-  pub range_traps : (n : ℕ) (v : ℤ) (ops : List ℤ) → IsWidth n → in_width n (v) ≡ false → R op.Range (pos n) (pos 0) (v ∷ ops) ≡ Traps 8 (pos 0) w
+  pub range_traps : (n : ℕ) (v : ℤ) (ops : List ℤ) → IsWidth n → in_width n (v) ≡ false → R op.Range (pos n) (pos 0) (v ∷ ops) ≡ Traps trap.Overflow (pos 0) w
   range_traps n v ops h e = h (λ k. in_type k (v) ops w) ∙ rw e refl
 
   pub eq_next : (x y : ℤ) (ops : List ℤ) → R op.Eq (pos 0) (pos 0) (y ∷ x ∷ ops) ≡ Next (truth (int_eq x y) ∷ ops) w
@@ -208,13 +212,13 @@ module _ (img : Image) (u : ModuleImage) (m p fb pc : ℕ) (w : World) where
   pub chr_next : (v : ℤ) (ops : List ℤ) → is_within v (pos 256) ≡ true → R op.Chr (pos 0) (pos 0) (v ∷ ops) ≡ Next (v ∷ ops) w
   chr_next v ops e = rw e refl
 
-  pub chr_traps : (v : ℤ) (ops : List ℤ) → is_within v (pos 256) ≡ false → R op.Chr (pos 0) (pos 0) (v ∷ ops) ≡ Traps 8 (pos 0) w
+  pub chr_traps : (v : ℤ) (ops : List ℤ) → is_within v (pos 256) ≡ false → R op.Chr (pos 0) (pos 0) (v ∷ ops) ≡ Traps trap.Overflow (pos 0) w
   chr_traps v ops e = rw e refl
 
   pub bit_next : (i : ℕ) (ops : List ℤ) → nat_lt i 32 ≡ true → R op.Bit (pos 0) (pos 0) (pos i ∷ ops) ≡ Next (set_from i i ∷ ops) w
   bit_next i ops e = rw e refl
 
-  pub bit_traps : (i : ℕ) (ops : List ℤ) → nat_lt i 32 ≡ false → R op.Bit (pos 0) (pos 0) (pos i ∷ ops) ≡ Traps 9 (pos 0) w
+  pub bit_traps : (i : ℕ) (ops : List ℤ) → nat_lt i 32 ≡ false → R op.Bit (pos 0) (pos 0) (pos i ∷ ops) ≡ Traps trap.NoElement (pos 0) w
   bit_traps i ops e = rw e refl
 
   pub bits_next : (i j : ℕ) (ops : List ℤ) → nat_lt i 32 ≡ true → nat_lt j 32 ≡ true → R op.Bits (pos 0) (pos 0) (pos j ∷ pos i ∷ ops) ≡ Next (set_from i j ∷ ops) w
@@ -232,20 +236,20 @@ module _ (img : Image) (u : ModuleImage) (m p fb pc : ℕ) (w : World) where
   pub ash_next : (x n : ℤ) (ops : List ℤ) → in_width 4 (shifted x n) ≡ true → R op.Ash (pos 0) (pos 0) (n ∷ x ∷ ops) ≡ Next (shifted x n ∷ ops) w
   ash_next x n ops e = rw e refl
 
-  pub ash_traps : (x n : ℤ) (ops : List ℤ) → in_width 4 (shifted x n) ≡ false → R op.Ash (pos 0) (pos 0) (n ∷ x ∷ ops) ≡ Traps 8 (pos 0) w
+  pub ash_traps : (x n : ℤ) (ops : List ℤ) → in_width 4 (shifted x n) ≡ false → R op.Ash (pos 0) (pos 0) (n ∷ x ∷ ops) ≡ Traps trap.Overflow (pos 0) w
   ash_traps x n ops e = rw e refl
 
   pub inc_next : (n : ℕ) (x d v : ℤ) (l : List ℤ) (ops : List ℤ) → IsWidth n → word_at w.words x ≡ Some v → in_width n (v +ℤ d) ≡ true → stored w.words x (v +ℤ d) ≡ Some l → R op.Inc (pos n) (pos 0) (d ∷ x ∷ ops) ≡ Next ops (with_memory w l)
-  inc_next n x d v l ops h e f g = h (λ k. on_found (word_at w.words x) (λ v. if in_width k (v +ℤ d) then on_found (stored w.words x (v +ℤ d)) (λ l. Next ops (with_memory w l)) else Traps 8 (pos 0) w)) ∙ rw (e, f, g) refl
+  inc_next n x d v l ops h e f g = h (λ k. on_found (word_at w.words x) (λ v. if in_width k (v +ℤ d) then on_found (stored w.words x (v +ℤ d)) (λ l. Next ops (with_memory w l)) else Traps trap.Overflow (pos 0) w)) ∙ rw (e, f, g) refl
 
-  pub inc_traps : (n : ℕ) (x d v : ℤ) (ops : List ℤ) → IsWidth n → word_at w.words x ≡ Some v → in_width n (v +ℤ d) ≡ false → R op.Inc (pos n) (pos 0) (d ∷ x ∷ ops) ≡ Traps 8 (pos 0) w
-  inc_traps n x d v ops h e f = h (λ k. on_found (word_at w.words x) (λ v. if in_width k (v +ℤ d) then on_found (stored w.words x (v +ℤ d)) (λ l. Next ops (with_memory w l)) else Traps 8 (pos 0) w)) ∙ rw (e, f) refl
+  pub inc_traps : (n : ℕ) (x d v : ℤ) (ops : List ℤ) → IsWidth n → word_at w.words x ≡ Some v → in_width n (v +ℤ d) ≡ false → R op.Inc (pos n) (pos 0) (d ∷ x ∷ ops) ≡ Traps trap.Overflow (pos 0) w
+  inc_traps n x d v ops h e f = h (λ k. on_found (word_at w.words x) (λ v. if in_width k (v +ℤ d) then on_found (stored w.words x (v +ℤ d)) (λ l. Next ops (with_memory w l)) else Traps trap.Overflow (pos 0) w)) ∙ rw (e, f) refl
 
   pub dec_next : (n : ℕ) (x d v : ℤ) (l : List ℤ) (ops : List ℤ) → IsWidth n → word_at w.words x ≡ Some v → in_width n (v -ℤ d) ≡ true → stored w.words x (v -ℤ d) ≡ Some l → R op.Dec (pos n) (pos 0) (d ∷ x ∷ ops) ≡ Next ops (with_memory w l)
-  dec_next n x d v l ops h e f g = h (λ k. on_found (word_at w.words x) (λ v. if in_width k (v -ℤ d) then on_found (stored w.words x (v -ℤ d)) (λ l. Next ops (with_memory w l)) else Traps 8 (pos 0) w)) ∙ rw (e, f, g) refl
+  dec_next n x d v l ops h e f g = h (λ k. on_found (word_at w.words x) (λ v. if in_width k (v -ℤ d) then on_found (stored w.words x (v -ℤ d)) (λ l. Next ops (with_memory w l)) else Traps trap.Overflow (pos 0) w)) ∙ rw (e, f, g) refl
 
-  pub dec_traps : (n : ℕ) (x d v : ℤ) (ops : List ℤ) → IsWidth n → word_at w.words x ≡ Some v → in_width n (v -ℤ d) ≡ false → R op.Dec (pos n) (pos 0) (d ∷ x ∷ ops) ≡ Traps 8 (pos 0) w
-  dec_traps n x d v ops h e f = h (λ k. on_found (word_at w.words x) (λ v. if in_width k (v -ℤ d) then on_found (stored w.words x (v -ℤ d)) (λ l. Next ops (with_memory w l)) else Traps 8 (pos 0) w)) ∙ rw (e, f) refl
+  pub dec_traps : (n : ℕ) (x d v : ℤ) (ops : List ℤ) → IsWidth n → word_at w.words x ≡ Some v → in_width n (v -ℤ d) ≡ false → R op.Dec (pos n) (pos 0) (d ∷ x ∷ ops) ≡ Traps trap.Overflow (pos 0) w
+  dec_traps n x d v ops h e f = h (λ k. on_found (word_at w.words x) (λ v. if in_width k (v -ℤ d) then on_found (stored w.words x (v -ℤ d)) (λ l. Next ops (with_memory w l)) else Traps trap.Overflow (pos 0) w)) ∙ rw (e, f) refl
 
   pub str_rel_next : (a : ℕ) (x l y n : ℤ) (s t : List ℤ) (ops : List ℤ) → nat_lt a 6 ≡ true → chars_at w.words x l ≡ Ends s → chars_at w.words y n ≡ Ends t → R op.StrRel (pos a) (pos 0) (n ∷ y ∷ l ∷ x ∷ ops) ≡ Next (truth (related a s t) ∷ ops) w
   str_rel_next a x l y n s t ops e f h = rw (e, f, h) refl
@@ -253,7 +257,7 @@ module _ (img : Image) (u : ModuleImage) (m p fb pc : ℕ) (w : World) where
   pub str_copy_next : (x l y : ℤ) (n : ℕ) (s c : List ℤ) (ops : List ℤ) → chars_at w.words x l ≡ Ends s → placed w.words y (take n s ++ pos 0 ∷ []) ≡ Some c → R op.StrCopy (pos 0) (pos 0) (pos (suc n) ∷ y ∷ l ∷ x ∷ ops) ≡ Next ops (with_memory w c)
   str_copy_next x l y n s c ops e f = rw (e, f) refl
 
-  pub str_copy_traps : (x l y : ℤ) (n : ℕ) (ops : List ℤ) → chars_at w.words x l ≡ Endless → R op.StrCopy (pos 0) (pos 0) (pos (suc n) ∷ y ∷ l ∷ x ∷ ops) ≡ Traps 15 (pos 0) w
+  pub str_copy_traps : (x l y : ℤ) (n : ℕ) (ops : List ℤ) → chars_at w.words x l ≡ Endless → R op.StrCopy (pos 0) (pos 0) (pos (suc n) ∷ y ∷ l ∷ x ∷ ops) ≡ Traps trap.NoEnd (pos 0) w
   str_copy_traps x l y n ops e = rw e refl
 
   pub jump_ahead : (a : ℕ) (ops : List ℤ) → nat_lt a (length u.code) ≡ true → nat_le a pc ≡ false → R op.Jump (pos a) (pos 0) ops ≡ Goto a ops w
@@ -277,13 +281,13 @@ module _ (img : Image) (u : ModuleImage) (m p fb pc : ℕ) (w : World) where
   pub jump_f_spends : (a : ℕ) (ops : List ℤ) → nat_lt a (length u.code) ≡ true → nat_le a pc ≡ true → w.turns ≡ 0 → R op.JumpF (pos a) (pos 0) (pos 0 ∷ ops) ≡ Spends w
   jump_f_spends a ops e f h = rw (e, f, h) refl
 
-  pub trap_traps : (a : ℕ) (b : ℤ) (ops : List ℤ) → nat_lt a 16 ≡ true → R op.Trap (pos (suc a)) b ops ≡ Traps (suc a) b w
-  trap_traps a b ops e = rw e refl
+  pub trap_traps : (kind : Trap) (b : ℤ) (ops : List ℤ) → R op.Trap (pos (trap_number kind)) b ops ≡ Traps kind b w
+  trap_traps kind b ops = rw (trap_again kind) refl
 
   pub assert_next : (a v : ℤ) (ops : List ℤ) → is_zero v ≡ false → R op.Assert a (pos 0) (v ∷ ops) ≡ Next ops w
   assert_next a v ops e = rw e refl
 
-  pub assert_traps : (a : ℤ) (ops : List ℤ) → R op.Assert a (pos 0) (pos 0 ∷ ops) ≡ Traps 10 a w
+  pub assert_traps : (a : ℤ) (ops : List ℤ) → R op.Assert a (pos 0) (pos 0 ∷ ops) ≡ Traps trap.AssertionFails a w
   assert_traps a ops = refl
 
   pub new_r_is : (x : ℤ) (a t : ℕ) (d : Descriptor) (ops : List ℤ) → slice_get u.types a ≡ Some t → slice_get img.types t ≡ Some d → are_there (length w.words) x 1 ≡ true → R op.NewR (pos a) (pos 0) (x ∷ ops) ≡ made x (tag t ∷ []) d.words ops w

@@ -2,6 +2,8 @@
 use Rattle.std.proofs.Common.{◌≡◌, ℕ, zero, suc, ◌≤◌, length, List, [], ◌∷◌, Some, ℤ, refl, sym, ap, ◌∙◌, subst, arith}
 use Rattle.std.proofs.lemmas.Bool.Decides.{nat_tests}
 use Rattle.std.specs.Prelude.{◌+◌, pos, slice_get, nat_le, true, false, if◌then◌else◌}
+use Rattle.ob_trap.specs.declared.trap.Trap.{Trap}
+use Rattle.ob_trap.specs.declared.trap.Trap.TheVariants as trap
 use Rattle.ob_tree.specs.declared.proc_ref.ProcRef.{ProcRef}
 use Rattle.ob_instr.specs.declared.instr.Instr.{Instr}
 use Rattle.ob_instr.specs.declared.procedure.Procedure.{Procedure}
@@ -61,7 +63,7 @@ module _ (img : Image) where
     pub jumps : {pc : ℕ} {ops : List ℤ} {w : World} {i : Instr} (at : ℕ) (ops2 : List ℤ) (w2 : World) → Has u pc i → effect pc ops w i ≡ Goto at ops2 w2 → length ops2 ≤ img.room.operands → Reach (Go m p fb acts pc ops w) (Go m p fb acts at ops2 w2)
     jumps {pc} {ops} {w} {i} at ops2 w2 h e small = has_step h _ (ap (come_to img u m p fb acts pc w) e) small (here _)
 
-    pub traps : {pc : ℕ} {ops : List ℤ} {w : World} {i : Instr} (kind : ℕ) (number : ℤ) (w2 : World) → Has u pc i → effect pc ops w i ≡ Traps kind number w2 → Reach (Go m p fb acts pc ops w) (Over (Trapped kind number m (position_at u.positions pc)) w2)
+    pub traps : {pc : ℕ} {ops : List ℤ} {w : World} {i : Instr} (kind : Trap) (number : ℤ) (w2 : World) → Has u pc i → effect pc ops w i ≡ Traps kind number w2 → Reach (Go m p fb acts pc ops w) (Over (Trapped kind number m (position_at u.positions pc)) w2)
     traps {pc} {ops} {w} {i} kind number w2 h e = has_step h _ (ap (come_to img u m p fb acts pc w) e) tt (here _)
 
     pub spends : {pc : ℕ} {ops : List ℤ} {w : World} {i : Instr} (w2 : World) → Has u pc i → effect pc ops w i ≡ Spends w2 → Reach (Go m p fb acts pc ops w) (Over (Spent m (position_at u.positions pc)) w2)
@@ -72,10 +74,10 @@ module _ (img : Image) where
     need q n = slots q.params + q.locals + n
 
     pub enters : {pc : ℕ} {ops : List ℤ} {w : World} {i : Instr} (r : ProcRef) (q : Procedure) (args : List ℤ) (n : ℕ) (rest : List ℤ) (w2 : World) → Has u pc i → effect pc ops w i ≡ Enter r q args n rest w2 → has_room img.room (need q n) acts w2 ≡ true → Reach (Go m p fb acts pc ops w) (Go r.module r.proc w2.stack (record { m = m; p = p; fb = fb; pc = suc pc; ops = rest } ∷ acts) q.entry [] (record w2 { words = entered w2.words w2.stack q args; stack = w2.stack + need q n }))
-    enters {pc} {ops} {w} {i} r q args n rest w2 h e room = has_step h _ (ap (come_to img u m p fb acts pc w) e ∙ ap (λ t. if t then Go r.module r.proc w2.stack (record { m = m; p = p; fb = fb; pc = suc pc; ops = rest } ∷ acts) q.entry [] (record w2 { words = entered w2.words w2.stack q args; stack = w2.stack + need q n }) else Over (Trapped 13 (pos 0) m (position_at u.positions pc)) w2) room) (omega arith) (here _)
+    enters {pc} {ops} {w} {i} r q args n rest w2 h e room = has_step h _ (ap (come_to img u m p fb acts pc w) e ∙ ap (λ t. if t then Go r.module r.proc w2.stack (record { m = m; p = p; fb = fb; pc = suc pc; ops = rest } ∷ acts) q.entry [] (record w2 { words = entered w2.words w2.stack q args; stack = w2.stack + need q n }) else Over (Trapped trap.StackFull (pos 0) m (position_at u.positions pc)) w2) room) (omega arith) (here _)
 
-    pub is_full : {pc : ℕ} {ops : List ℤ} {w : World} {i : Instr} (r : ProcRef) (q : Procedure) (args : List ℤ) (n : ℕ) (rest : List ℤ) (w2 : World) → Has u pc i → effect pc ops w i ≡ Enter r q args n rest w2 → has_room img.room (need q n) acts w2 ≡ false → Reach (Go m p fb acts pc ops w) (Over (Trapped 13 (pos 0) m (position_at u.positions pc)) w2)
-    is_full {pc} {ops} {w} {i} r q args n rest w2 h e room = has_step h _ (ap (come_to img u m p fb acts pc w) e ∙ ap (λ t. if t then Go r.module r.proc w2.stack (record { m = m; p = p; fb = fb; pc = suc pc; ops = rest } ∷ acts) q.entry [] (record w2 { words = entered w2.words w2.stack q args; stack = w2.stack + need q n }) else Over (Trapped 13 (pos 0) m (position_at u.positions pc)) w2) room) tt (here _)
+    pub is_full : {pc : ℕ} {ops : List ℤ} {w : World} {i : Instr} (r : ProcRef) (q : Procedure) (args : List ℤ) (n : ℕ) (rest : List ℤ) (w2 : World) → Has u pc i → effect pc ops w i ≡ Enter r q args n rest w2 → has_room img.room (need q n) acts w2 ≡ false → Reach (Go m p fb acts pc ops w) (Over (Trapped trap.StackFull (pos 0) m (position_at u.positions pc)) w2)
+    is_full {pc} {ops} {w} {i} r q args n rest w2 h e room = has_step h _ (ap (come_to img u m p fb acts pc w) e ∙ ap (λ t. if t then Go r.module r.proc w2.stack (record { m = m; p = p; fb = fb; pc = suc pc; ops = rest } ∷ acts) q.entry [] (record w2 { words = entered w2.words w2.stack q args; stack = w2.stack + need q n }) else Over (Trapped trap.StackFull (pos 0) m (position_at u.positions pc)) w2) room) tt (here _)
 
     pub leaves : {pc : ℕ} {ops : List ℤ} {w : World} {i : Instr} (given : List ℤ) (w2 : World) → Has u pc i → effect pc ops w i ≡ Leave given w2 → Small (left fb acts given w2) → Reach (Go m p fb acts pc ops w) (left fb acts given w2)
     leaves {pc} {ops} {w} {i} given w2 h e small = has_step h _ (ap (come_to img u m p fb acts pc w) e) small (here _)

@@ -1,6 +1,7 @@
 -- Small programs, run by the table.
 use Rattle.std.specs.Prelude.{negsuc, ◌≡◌, ℕ, ◌∷◌, [], List, ℤ, pos, replicate, Some, None, true, false, refl, codes}
 use Rattle.std.specs.Fmt.{digits}
+use Rattle.ob_trap.specs.declared.trap.Trap.TheVariants as trap
 use Rattle.ob_tree.specs.declared.proc_ref.ProcRef.{ProcRef}
 use Rattle.ob_tdesc.specs.declared.descriptor.Descriptor.{Descriptor}
 use Rattle.ob_instr.specs.declared.opcode.Opcode.{Opcode}
@@ -100,10 +101,10 @@ div_rounds_down = refl
 mod_is_positive : R op.Mod (pos 0) (pos 0) (pos 2 ∷ negsuc 6 ∷ []) ≡ Next (pos 1 ∷ []) here
 mod_is_positive = refl
 
-div_by_0 : R op.Div (pos 0) (pos 0) (pos 0 ∷ pos 1 ∷ []) ≡ Traps 7 (pos 0) here
+div_by_0 : R op.Div (pos 0) (pos 0) (pos 0 ∷ pos 1 ∷ []) ≡ Traps trap.NoDivisor (pos 0) here
 div_by_0 = refl
 
-add_of_bytes : R op.Add (pos 1) (pos 0) (pos 1 ∷ pos 127 ∷ []) ≡ Traps 8 (pos 0) here
+add_of_bytes : R op.Add (pos 1) (pos 0) (pos 1 ∷ pos 127 ∷ []) ≡ Traps trap.Overflow (pos 0) here
 add_of_bytes = refl
 
 add_of_three_bytes : R op.Add (pos 3) (pos 0) (pos 1 ∷ pos 127 ∷ []) ≡ Unable
@@ -121,10 +122,10 @@ set_of_30_31 = refl
 empty_range : R op.Bits (pos 0) (pos 0) (pos 3 ∷ pos 5 ∷ []) ≡ Next (pos 0 ∷ []) here
 empty_range = refl
 
-element_32 : R op.Bit (pos 0) (pos 0) (pos 32 ∷ []) ≡ Traps 9 (pos 0) here
+element_32 : R op.Bit (pos 0) (pos 0) (pos 32 ∷ []) ≡ Traps trap.NoElement (pos 0) here
 element_32 = refl
 
-index_at_the_end : R op.Index (pos 3) (pos 2) (pos 3 ∷ pos 1 ∷ []) ≡ Traps 1 (pos 0) here
+index_at_the_end : R op.Index (pos 3) (pos 2) (pos 3 ∷ pos 1 ∷ []) ≡ Traps trap.IndexOutside (pos 0) here
 index_at_the_end = refl
 
 index_inside : R op.Index (pos 3) (pos 2) (pos 2 ∷ pos 1 ∷ []) ≡ Next (pos 5 ∷ []) here
@@ -133,7 +134,7 @@ index_inside = refl
 text_before : R op.StrRel (pos 2) (pos 0) (pos 2 ∷ pos 4 ∷ pos 3 ∷ pos 1 ∷ []) ≡ Next (pos 1 ∷ []) here
 text_before = refl
 
-text_without_end : R op.StrRel (pos 0) (pos 0) (pos 1 ∷ pos 4 ∷ pos 3 ∷ pos 1 ∷ []) ≡ Traps 15 (pos 0) here
+text_without_end : R op.StrRel (pos 0) (pos 0) (pos 1 ∷ pos 4 ∷ pos 3 ∷ pos 1 ∷ []) ≡ Traps trap.NoEnd (pos 0) here
 text_without_end = refl
 
 -- an address that is not there comes before a text without end
@@ -166,10 +167,10 @@ object_is_one = refl
 no_such_type : R op.IsP (pos 1) (pos 0) (pos 0 ∷ []) ≡ Unable
 no_such_type = refl
 
-guard_of_nil : R op.GuardR (pos 0) (pos 0) (pos 0 ∷ []) ≡ Traps 3 (pos 0) here
+guard_of_nil : R op.GuardR (pos 0) (pos 0) (pos 0 ∷ []) ≡ Traps trap.GuardFails (pos 0) here
 guard_of_nil = refl
 
-inc_stores_nothing : R op.Inc (pos 1) (pos 0) (pos 31 ∷ pos 1 ∷ []) ≡ Traps 8 (pos 0) here
+inc_stores_nothing : R op.Inc (pos 1) (pos 0) (pos 31 ∷ pos 1 ∷ []) ≡ Traps trap.Overflow (pos 0) here
 inc_stores_nothing = refl
 
 -- a jump's target has to be there also where the jump is not taken
@@ -182,16 +183,16 @@ jump_to_itself = refl
 kind_17 : R op.Trap (pos 17) (pos 0) [] ≡ Unable
 kind_17 = refl
 
-length_0 : R op.NewO (pos 4) (pos 0) (pos 0 ∷ pos 1 ∷ []) ≡ Traps 16 (pos 0) here
+length_0 : R op.NewO (pos 4) (pos 0) (pos 0 ∷ pos 1 ∷ []) ≡ Traps trap.NoLength (pos 0) here
 length_0 = refl
 
-heap_full : R op.NewA (pos 4) (pos 0) (pos 1 ∷ []) ≡ Traps 12 (pos 0) here
+heap_full : R op.NewA (pos 4) (pos 0) (pos 1 ∷ []) ≡ Traps trap.HeapFull (pos 0) here
 heap_full = refl
 
-no_procedure : R op.CallV (pos 0) (pos 0) (pos 0 ∷ []) ≡ Traps 2 (pos 0) here
+no_procedure : R op.CallV (pos 0) (pos 0) (pos 0 ∷ []) ≡ Traps trap.Nil (pos 0) here
 no_procedure = refl
 
-no_receiver : R op.CallP (pos 9) (pos 0) (pos 0 ∷ []) ≡ Traps 2 (pos 0) here
+no_receiver : R op.CallP (pos 9) (pos 0) (pos 0 ∷ []) ≡ Traps trap.Nil (pos 0) here
 no_receiver = refl
 
 no_tag : R op.CallR (pos 0) (pos 0) (pos 0 ∷ pos 1 ∷ []) ≡ Unable

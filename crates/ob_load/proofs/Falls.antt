@@ -5,6 +5,8 @@ use Rattle.std.specs.Int.{w32, int_div_euclid, int_rem_euclid, int_bit_and, int_
 use Rattle.std.specs.Ordering.{int_eq}
 use Rattle.std.proofs.lemmas.Bool.{leb-false}
 use Rattle.std.specs.List.{AllByRecursion}
+use Rattle.ob_trap.specs.declared.trap.Trap.TheVariants as trap
+use Rattle.ob_trap.specs.Numbers.{trap_of}
 use Rattle.ob_tree.specs.declared.proc_ref.ProcRef.{ProcRef}
 use Rattle.ob_mem.specs.Words.{Held, word_at, are_there, with_words, stored, copied, heap_taken}
 use Rattle.ob_instr.specs.declared.opcode.Opcode.{Opcode}
@@ -12,7 +14,7 @@ use Rattle.ob_instr.specs.declared.opcode.Opcode.TheVariants as op
 use Rattle.ob_instr.specs.declared.instr.Instr.{Instr}
 use Rattle.ob_instr.specs.Parts.{slots}
 use Rattle.ob_instr.specs.Image.{ModuleImage, Image, World, Act, End, Trapped, Illegal, Point, Go, Over}
-use Rattle.ob_instr.specs.Rows.{Effect, Next, Goto, Enter, Leave, Traps, Spends, Unable, on_found, item, below, up_to, is_zero, on_count, on_width, on_one, on_two, on_three, on_four, on_args, word, in_width, in_type, with_memory, truth, compared, is_within, magnitude, shifted, capital, on_element, set_from, has_element, tag, tag_passes, pointer_passes, Chars, Missing, Endless, Ends, chars_at, on_chars, on_both, related, turn_or, on_turn, jumped, copy_words, calls, calls_with, proc_value, proc_of_value, method_at, tag_method, pointer_method, on_receiver, on_tag, procedure_of, entered, taken, made, made_many, placed, copies_chars, where_there, written, written_chars, printed, padded, low_byte, low_bytes}
+use Rattle.ob_instr.specs.Rows.{Effect, Next, Goto, Enter, Leave, Traps, Spends, Unable, on_found, item, below, is_zero, on_count, on_width, on_one, on_two, on_three, on_four, on_args, word, in_width, in_type, with_memory, truth, compared, is_within, magnitude, shifted, capital, on_element, set_from, has_element, tag, tag_passes, pointer_passes, Chars, Missing, Endless, Ends, chars_at, on_chars, on_both, related, turn_or, on_turn, jumped, copy_words, calls, calls_with, proc_value, proc_of_value, method_at, tag_method, pointer_method, on_receiver, on_tag, procedure_of, entered, taken, made, made_many, placed, copies_chars, where_there, written, written_chars, printed, padded, low_byte, low_bytes}
 use Rattle.ob_instr.specs.declared.procedure.Procedure.{Procedure}
 use Rattle.ob_instr.specs.Table.{row, position_at, checked, has_room, left, come_to, act, act_in, step, run, begins, start}
 use Rattle.ob_load.specs.Running.{RunsEnd, IsShort, enough}
@@ -80,13 +82,13 @@ words : (pc : ℕ) (v : ℤ) (ops : List ℤ) (w : World) → Falls (pc, w.turns
 words pc v ops w = either (pc, w.turns) (in_width 4 v) (Next (v ∷ ops) w) Unable (same w.turns) tt
 
 typed : (pc : ℕ) (n : ℕ) (v : ℤ) (ops : List ℤ) (w : World) → Falls (pc, w.turns) (in_type n v ops w)
-typed pc n v ops w = either (pc, w.turns) (in_width n v) (Next (v ∷ ops) w) (Traps 8 (pos 0) w) (same w.turns) (same w.turns)
+typed pc n v ops w = either (pc, w.turns) (in_width n v) (Next (v ∷ ops) w) (Traps trap.Overflow (pos 0) w) (same w.turns) (same w.turns)
 
 compare : (pc : ℕ) (holds : ℤ → ℤ → Bool) (ops : List ℤ) (w : World) → Falls (pc, w.turns) (compared holds ops w)
 compare pc holds ops w = two (pc, w.turns) ops (λ u v rest. Next (truth (holds u v) ∷ rest) w) (λ u v rest. same w.turns)
 
 element : (pc : ℕ) (v : ℤ) (w : World) (k : ℕ → Effect) → ((i : ℕ) → Falls (pc, w.turns) (k i)) → Falls (pc, w.turns) (on_element v w k)
-element pc (pos i) w k h = either (pc, w.turns) (nat_lt i 32) (k i) (Traps 9 (pos 0) w) (h i) (same w.turns)
+element pc (pos i) w k h = either (pc, w.turns) (nat_lt i 32) (k i) (Traps trap.NoElement (pos 0) w) (h i) (same w.turns)
 element pc (negsuc i) w k h = same w.turns
 
 chars : (pc : ℕ) (s : Chars) (w : World) (k : List ℤ → Effect) → ((l : List ℤ) → Falls (pc, w.turns) (k l)) → Falls (pc, w.turns) (on_chars s w k)
@@ -145,7 +147,7 @@ less n t lt = omega arith
 
 write_chars : (pc : ℕ) (s : Chars) (ops : List ℤ) (w : World) → Falls (pc, w.turns) (written_chars s ops w)
 write_chars pc Missing ops w = tt
-write_chars pc Endless ops w = turn pc w (λ v. Traps 15 (pos 0) v) (λ n lt. less n w.turns lt)
+write_chars pc Endless ops w = turn pc w (λ v. Traps trap.NoEnd (pos 0) v) (λ n lt. less n w.turns lt)
 write_chars pc (Ends l) ops w = turn pc w (λ v. Next ops (printed v (low_bytes l))) (λ n lt. less n w.turns lt)
 
 write : (pc : ℕ) (a : ℤ) (ops : List ℤ) (w : World) → Falls (pc, w.turns) (written a ops w)
@@ -189,17 +191,17 @@ row_falls img u m p fb pc op.Load a b ops w = one (pc, w.turns) ops (λ x rest. 
 row_falls img u m p fb pc op.Store a b ops w = two (pc, w.turns) ops (λ x v rest. on_found (stored w.words x v) (λ l. Next rest (with_memory w l))) (λ x v rest. store pc (stored w.words x v) rest w)
 row_falls img u m p fb pc op.Copy a b ops w = count (pc, w.turns) a (λ n. on_two ops (λ d s rest. on_found (copied w.words d s n) (λ l. Next rest (with_memory w l)))) (λ n. two (pc, w.turns) ops (λ d s rest. on_found (copied w.words d s n) (λ l. Next rest (with_memory w l))) (λ d s rest. store pc (copied w.words d s n) rest w))
 row_falls img u m p fb pc op.CopyRec a b ops w =
-    count (pc, w.turns) a (λ n. on_found (item u.types b) (λ t. on_three ops (λ d g s rest. on_found (copied w.words d s n) (λ l. if int_eq g (tag t) then Next rest (with_memory w l) else Traps 14 (pos 0) w))))
-    (λ n. found (pc, w.turns) (item u.types b) (λ t. on_three ops (λ d g s rest. on_found (copied w.words d s n) (λ l. if int_eq g (tag t) then Next rest (with_memory w l) else Traps 14 (pos 0) w)))
-    (λ t. three (pc, w.turns) ops (λ d g s rest. on_found (copied w.words d s n) (λ l. if int_eq g (tag t) then Next rest (with_memory w l) else Traps 14 (pos 0) w))
-    (λ d g s rest. found (pc, w.turns) (copied w.words d s n) (λ l. if int_eq g (tag t) then Next rest (with_memory w l) else Traps 14 (pos 0) w)
-    (λ l. either (pc, w.turns) (int_eq g (tag t)) (Next rest (with_memory w l)) (Traps 14 (pos 0) w) (same w.turns) (same w.turns)))))
+    count (pc, w.turns) a (λ n. on_found (item u.types b) (λ t. on_three ops (λ d g s rest. on_found (copied w.words d s n) (λ l. if int_eq g (tag t) then Next rest (with_memory w l) else Traps trap.OtherType (pos 0) w))))
+    (λ n. found (pc, w.turns) (item u.types b) (λ t. on_three ops (λ d g s rest. on_found (copied w.words d s n) (λ l. if int_eq g (tag t) then Next rest (with_memory w l) else Traps trap.OtherType (pos 0) w)))
+    (λ t. three (pc, w.turns) ops (λ d g s rest. on_found (copied w.words d s n) (λ l. if int_eq g (tag t) then Next rest (with_memory w l) else Traps trap.OtherType (pos 0) w))
+    (λ d g s rest. found (pc, w.turns) (copied w.words d s n) (λ l. if int_eq g (tag t) then Next rest (with_memory w l) else Traps trap.OtherType (pos 0) w)
+    (λ l. either (pc, w.turns) (int_eq g (tag t)) (Next rest (with_memory w l)) (Traps trap.OtherType (pos 0) w) (same w.turns) (same w.turns)))))
 row_falls img u m p fb pc op.Offset a b ops w = one (pc, w.turns) ops (λ x rest. word (x +ℤ a) rest w) (λ x rest. words pc (x +ℤ a) rest w)
-row_falls img u m p fb pc op.Index a b ops w = two (pc, w.turns) ops (λ x i rest. if is_within i a then word (x +ℤ (i *ℤ b)) rest w else Traps 1 (pos 0) w) (λ x i rest. either (pc, w.turns) (is_within i a) (word (x +ℤ (i *ℤ b)) rest w) (Traps 1 (pos 0) w) (words pc (x +ℤ (i *ℤ b)) rest w) (same w.turns))
-row_falls img u m p fb pc op.IndexO a b ops w = three (pc, w.turns) ops (λ x l i rest. if is_within i l then word (x +ℤ (i *ℤ a)) rest w else Traps 1 (pos 0) w) (λ x l i rest. either (pc, w.turns) (is_within i l) (word (x +ℤ (i *ℤ a)) rest w) (Traps 1 (pos 0) w) (words pc (x +ℤ (i *ℤ a)) rest w) (same w.turns))
-row_falls img u m p fb pc op.Deref a b ops w = one (pc, w.turns) ops (λ x rest. if is_zero x then Traps 2 (pos 0) w else Next (x ∷ rest) w) (λ x rest. either (pc, w.turns) (is_zero x) (Traps 2 (pos 0) w) (Next (x ∷ rest) w) (same w.turns) (same w.turns))
-row_falls img u m p fb pc op.Tagged a b ops w = one (pc, w.turns) ops (λ x rest. if is_zero x then Traps 2 (pos 0) w else on_found (word_at w.words (x -ℤ pos 1)) (λ g. Next (g ∷ x ∷ rest) w)) (λ x rest. either (pc, w.turns) (is_zero x) (Traps 2 (pos 0) w) (on_found (word_at w.words (x -ℤ pos 1)) (λ g. Next (g ∷ x ∷ rest) w)) (same w.turns) (found (pc, w.turns) (word_at w.words (x -ℤ pos 1)) (λ g. Next (g ∷ x ∷ rest) w) (λ g. same w.turns)))
-row_falls img u m p fb pc op.Lenned a b ops w = one (pc, w.turns) ops (λ x rest. if is_zero x then Traps 2 (pos 0) w else on_found (word_at w.words (x -ℤ pos 1)) (λ g. Next (g ∷ x ∷ rest) w)) (λ x rest. either (pc, w.turns) (is_zero x) (Traps 2 (pos 0) w) (on_found (word_at w.words (x -ℤ pos 1)) (λ g. Next (g ∷ x ∷ rest) w)) (same w.turns) (found (pc, w.turns) (word_at w.words (x -ℤ pos 1)) (λ g. Next (g ∷ x ∷ rest) w) (λ g. same w.turns)))
+row_falls img u m p fb pc op.Index a b ops w = two (pc, w.turns) ops (λ x i rest. if is_within i a then word (x +ℤ (i *ℤ b)) rest w else Traps trap.IndexOutside (pos 0) w) (λ x i rest. either (pc, w.turns) (is_within i a) (word (x +ℤ (i *ℤ b)) rest w) (Traps trap.IndexOutside (pos 0) w) (words pc (x +ℤ (i *ℤ b)) rest w) (same w.turns))
+row_falls img u m p fb pc op.IndexO a b ops w = three (pc, w.turns) ops (λ x l i rest. if is_within i l then word (x +ℤ (i *ℤ a)) rest w else Traps trap.IndexOutside (pos 0) w) (λ x l i rest. either (pc, w.turns) (is_within i l) (word (x +ℤ (i *ℤ a)) rest w) (Traps trap.IndexOutside (pos 0) w) (words pc (x +ℤ (i *ℤ a)) rest w) (same w.turns))
+row_falls img u m p fb pc op.Deref a b ops w = one (pc, w.turns) ops (λ x rest. if is_zero x then Traps trap.Nil (pos 0) w else Next (x ∷ rest) w) (λ x rest. either (pc, w.turns) (is_zero x) (Traps trap.Nil (pos 0) w) (Next (x ∷ rest) w) (same w.turns) (same w.turns))
+row_falls img u m p fb pc op.Tagged a b ops w = one (pc, w.turns) ops (λ x rest. if is_zero x then Traps trap.Nil (pos 0) w else on_found (word_at w.words (x -ℤ pos 1)) (λ g. Next (g ∷ x ∷ rest) w)) (λ x rest. either (pc, w.turns) (is_zero x) (Traps trap.Nil (pos 0) w) (on_found (word_at w.words (x -ℤ pos 1)) (λ g. Next (g ∷ x ∷ rest) w)) (same w.turns) (found (pc, w.turns) (word_at w.words (x -ℤ pos 1)) (λ g. Next (g ∷ x ∷ rest) w) (λ g. same w.turns)))
+row_falls img u m p fb pc op.Lenned a b ops w = one (pc, w.turns) ops (λ x rest. if is_zero x then Traps trap.Nil (pos 0) w else on_found (word_at w.words (x -ℤ pos 1)) (λ g. Next (g ∷ x ∷ rest) w)) (λ x rest. either (pc, w.turns) (is_zero x) (Traps trap.Nil (pos 0) w) (on_found (word_at w.words (x -ℤ pos 1)) (λ g. Next (g ∷ x ∷ rest) w)) (same w.turns) (found (pc, w.turns) (word_at w.words (x -ℤ pos 1)) (λ g. Next (g ∷ x ∷ rest) w) (λ g. same w.turns)))
 row_falls img u m p fb pc op.Tag a b ops w = found (pc, w.turns) (item u.types a) (λ t. word (tag t) ops w) (λ t. words pc (tag t) ops w)
 row_falls img u m p fb pc op.IsP a b ops w =
     found (pc, w.turns) (item u.types a) (λ t. on_one ops (λ x rest. on_found (pointer_passes img.types w.words x t) (λ yes. Next (truth yes ∷ rest) w)))
@@ -208,20 +210,20 @@ row_falls img u m p fb pc op.IsR a b ops w =
     found (pc, w.turns) (item u.types a) (λ t. on_one ops (λ g rest. on_found (tag_passes img.types g t) (λ yes. Next (truth yes ∷ rest) w)))
     (λ t. one (pc, w.turns) ops (λ g rest. on_found (tag_passes img.types g t) (λ yes. Next (truth yes ∷ rest) w)) (λ g rest. found (pc, w.turns) (tag_passes img.types g t) (λ yes. Next (truth yes ∷ rest) w) (λ yes. same w.turns)))
 row_falls img u m p fb pc op.GuardAt a b ops w =
-    found (pc, w.turns) (item u.types a) (λ t. on_one ops (λ x rest. on_found (word_at w.words x) (λ v. on_found (pointer_passes img.types w.words v t) (λ yes. if yes then Next (x ∷ rest) w else Traps 3 (pos 0) w))))
-    (λ t. one (pc, w.turns) ops (λ x rest. on_found (word_at w.words x) (λ v. on_found (pointer_passes img.types w.words v t) (λ yes. if yes then Next (x ∷ rest) w else Traps 3 (pos 0) w)))
-    (λ x rest. found (pc, w.turns) (word_at w.words x) (λ v. on_found (pointer_passes img.types w.words v t) (λ yes. if yes then Next (x ∷ rest) w else Traps 3 (pos 0) w))
-    (λ v. found (pc, w.turns) (pointer_passes img.types w.words v t) (λ yes. if yes then Next (x ∷ rest) w else Traps 3 (pos 0) w) (λ yes. either (pc, w.turns) yes (Next (x ∷ rest) w) (Traps 3 (pos 0) w) (same w.turns) (same w.turns)))))
+    found (pc, w.turns) (item u.types a) (λ t. on_one ops (λ x rest. on_found (word_at w.words x) (λ v. on_found (pointer_passes img.types w.words v t) (λ yes. if yes then Next (x ∷ rest) w else Traps trap.GuardFails (pos 0) w))))
+    (λ t. one (pc, w.turns) ops (λ x rest. on_found (word_at w.words x) (λ v. on_found (pointer_passes img.types w.words v t) (λ yes. if yes then Next (x ∷ rest) w else Traps trap.GuardFails (pos 0) w)))
+    (λ x rest. found (pc, w.turns) (word_at w.words x) (λ v. on_found (pointer_passes img.types w.words v t) (λ yes. if yes then Next (x ∷ rest) w else Traps trap.GuardFails (pos 0) w))
+    (λ v. found (pc, w.turns) (pointer_passes img.types w.words v t) (λ yes. if yes then Next (x ∷ rest) w else Traps trap.GuardFails (pos 0) w) (λ yes. either (pc, w.turns) yes (Next (x ∷ rest) w) (Traps trap.GuardFails (pos 0) w) (same w.turns) (same w.turns)))))
 row_falls img u m p fb pc op.GuardR a b ops w =
-    found (pc, w.turns) (item u.types a) (λ t. on_one ops (λ g rest. on_found (tag_passes img.types g t) (λ yes. if yes then Next (g ∷ rest) w else Traps 3 (pos 0) w)))
-    (λ t. one (pc, w.turns) ops (λ g rest. on_found (tag_passes img.types g t) (λ yes. if yes then Next (g ∷ rest) w else Traps 3 (pos 0) w))
-    (λ g rest. found (pc, w.turns) (tag_passes img.types g t) (λ yes. if yes then Next (g ∷ rest) w else Traps 3 (pos 0) w) (λ yes. either (pc, w.turns) yes (Next (g ∷ rest) w) (Traps 3 (pos 0) w) (same w.turns) (same w.turns))))
+    found (pc, w.turns) (item u.types a) (λ t. on_one ops (λ g rest. on_found (tag_passes img.types g t) (λ yes. if yes then Next (g ∷ rest) w else Traps trap.GuardFails (pos 0) w)))
+    (λ t. one (pc, w.turns) ops (λ g rest. on_found (tag_passes img.types g t) (λ yes. if yes then Next (g ∷ rest) w else Traps trap.GuardFails (pos 0) w))
+    (λ g rest. found (pc, w.turns) (tag_passes img.types g t) (λ yes. if yes then Next (g ∷ rest) w else Traps trap.GuardFails (pos 0) w) (λ yes. either (pc, w.turns) yes (Next (g ∷ rest) w) (Traps trap.GuardFails (pos 0) w) (same w.turns) (same w.turns))))
 row_falls img u m p fb pc op.Drop a b ops w = one (pc, w.turns) ops (λ v rest. Next rest w) (λ v rest. same w.turns)
 row_falls img u m p fb pc op.Add a b ops w = width (pc, w.turns) a (λ n. on_two ops (λ x y rest. in_type n (x +ℤ y) rest w)) (λ n. two (pc, w.turns) ops (λ x y rest. in_type n (x +ℤ y) rest w) (λ x y rest. typed pc n (x +ℤ y) rest w))
 row_falls img u m p fb pc op.Sub a b ops w = width (pc, w.turns) a (λ n. on_two ops (λ x y rest. in_type n (x -ℤ y) rest w)) (λ n. two (pc, w.turns) ops (λ x y rest. in_type n (x -ℤ y) rest w) (λ x y rest. typed pc n (x -ℤ y) rest w))
 row_falls img u m p fb pc op.Mul a b ops w = width (pc, w.turns) a (λ n. on_two ops (λ x y rest. in_type n (x *ℤ y) rest w)) (λ n. two (pc, w.turns) ops (λ x y rest. in_type n (x *ℤ y) rest w) (λ x y rest. typed pc n (x *ℤ y) rest w))
-row_falls img u m p fb pc op.Div a b ops w = two (pc, w.turns) ops (λ x y rest. if int_lt (pos 0) y then Next (int_div_euclid x y ∷ rest) w else Traps 7 (pos 0) w) (λ x y rest. either (pc, w.turns) (int_lt (pos 0) y) (Next (int_div_euclid x y ∷ rest) w) (Traps 7 (pos 0) w) (same w.turns) (same w.turns))
-row_falls img u m p fb pc op.Mod a b ops w = two (pc, w.turns) ops (λ x y rest. if int_lt (pos 0) y then Next (int_rem_euclid x y ∷ rest) w else Traps 7 (pos 0) w) (λ x y rest. either (pc, w.turns) (int_lt (pos 0) y) (Next (int_rem_euclid x y ∷ rest) w) (Traps 7 (pos 0) w) (same w.turns) (same w.turns))
+row_falls img u m p fb pc op.Div a b ops w = two (pc, w.turns) ops (λ x y rest. if int_lt (pos 0) y then Next (int_div_euclid x y ∷ rest) w else Traps trap.NoDivisor (pos 0) w) (λ x y rest. either (pc, w.turns) (int_lt (pos 0) y) (Next (int_div_euclid x y ∷ rest) w) (Traps trap.NoDivisor (pos 0) w) (same w.turns) (same w.turns))
+row_falls img u m p fb pc op.Mod a b ops w = two (pc, w.turns) ops (λ x y rest. if int_lt (pos 0) y then Next (int_rem_euclid x y ∷ rest) w else Traps trap.NoDivisor (pos 0) w) (λ x y rest. either (pc, w.turns) (int_lt (pos 0) y) (Next (int_rem_euclid x y ∷ rest) w) (Traps trap.NoDivisor (pos 0) w) (same w.turns) (same w.turns))
 row_falls img u m p fb pc op.Neg a b ops w = width (pc, w.turns) a (λ n. on_one ops (λ v rest. in_type n (neg_ℤ v) rest w)) (λ n. one (pc, w.turns) ops (λ v rest. in_type n (neg_ℤ v) rest w) (λ v rest. typed pc n (neg_ℤ v) rest w))
 row_falls img u m p fb pc op.Abs a b ops w = width (pc, w.turns) a (λ n. on_one ops (λ v rest. in_type n (magnitude v) rest w)) (λ n. one (pc, w.turns) ops (λ v rest. in_type n (magnitude v) rest w) (λ v rest. typed pc n (magnitude v) rest w))
 row_falls img u m p fb pc op.Eq a b ops w = compare pc int_eq ops w
@@ -248,20 +250,20 @@ row_falls img u m p fb pc op.Excl a b ops w =
     (λ x v rest. found (pc, w.turns) (word_at w.words x) (λ s. on_element v w (λ i. on_found (stored w.words x (int_bit_and w32 s (int_bit_not w32 (set_from i i)))) (λ l. Next rest (with_memory w l))))
     (λ s. element pc v w (λ i. on_found (stored w.words x (int_bit_and w32 s (int_bit_not w32 (set_from i i)))) (λ l. Next rest (with_memory w l))) (λ i. store pc (stored w.words x (int_bit_and w32 s (int_bit_not w32 (set_from i i)))) rest w)))
 row_falls img u m p fb pc op.Range a b ops w = width (pc, w.turns) a (λ n. on_one ops (λ v rest. in_type n v rest w)) (λ n. one (pc, w.turns) ops (λ v rest. in_type n v rest w) (λ v rest. typed pc n v rest w))
-row_falls img u m p fb pc op.Chr a b ops w = one (pc, w.turns) ops (λ v rest. if is_within v (pos 256) then Next (v ∷ rest) w else Traps 8 (pos 0) w) (λ v rest. either (pc, w.turns) (is_within v (pos 256)) (Next (v ∷ rest) w) (Traps 8 (pos 0) w) (same w.turns) (same w.turns))
+row_falls img u m p fb pc op.Chr a b ops w = one (pc, w.turns) ops (λ v rest. if is_within v (pos 256) then Next (v ∷ rest) w else Traps trap.Overflow (pos 0) w) (λ v rest. either (pc, w.turns) (is_within v (pos 256)) (Next (v ∷ rest) w) (Traps trap.Overflow (pos 0) w) (same w.turns) (same w.turns))
 row_falls img u m p fb pc op.Odd a b ops w = one (pc, w.turns) ops (λ v rest. Next (int_rem_euclid v (pos 2) ∷ rest) w) (λ v rest. same w.turns)
 row_falls img u m p fb pc op.Cap a b ops w = one (pc, w.turns) ops (λ v rest. Next (capital v ∷ rest) w) (λ v rest. same w.turns)
 row_falls img u m p fb pc op.Ash a b ops w = two (pc, w.turns) ops (λ x n rest. in_type 4 (shifted x n) rest w) (λ x n rest. typed pc 4 (shifted x n) rest w)
 row_falls img u m p fb pc op.Inc a b ops w =
-    width (pc, w.turns) a (λ n. on_two ops (λ x d rest. on_found (word_at w.words x) (λ v. if in_width n (v +ℤ d) then on_found (stored w.words x (v +ℤ d)) (λ l. Next rest (with_memory w l)) else Traps 8 (pos 0) w)))
-    (λ n. two (pc, w.turns) ops (λ x d rest. on_found (word_at w.words x) (λ v. if in_width n (v +ℤ d) then on_found (stored w.words x (v +ℤ d)) (λ l. Next rest (with_memory w l)) else Traps 8 (pos 0) w))
-    (λ x d rest. found (pc, w.turns) (word_at w.words x) (λ v. if in_width n (v +ℤ d) then on_found (stored w.words x (v +ℤ d)) (λ l. Next rest (with_memory w l)) else Traps 8 (pos 0) w)
-    (λ v. either (pc, w.turns) (in_width n (v +ℤ d)) (on_found (stored w.words x (v +ℤ d)) (λ l. Next rest (with_memory w l))) (Traps 8 (pos 0) w) (store pc (stored w.words x (v +ℤ d)) rest w) (same w.turns))))
+    width (pc, w.turns) a (λ n. on_two ops (λ x d rest. on_found (word_at w.words x) (λ v. if in_width n (v +ℤ d) then on_found (stored w.words x (v +ℤ d)) (λ l. Next rest (with_memory w l)) else Traps trap.Overflow (pos 0) w)))
+    (λ n. two (pc, w.turns) ops (λ x d rest. on_found (word_at w.words x) (λ v. if in_width n (v +ℤ d) then on_found (stored w.words x (v +ℤ d)) (λ l. Next rest (with_memory w l)) else Traps trap.Overflow (pos 0) w))
+    (λ x d rest. found (pc, w.turns) (word_at w.words x) (λ v. if in_width n (v +ℤ d) then on_found (stored w.words x (v +ℤ d)) (λ l. Next rest (with_memory w l)) else Traps trap.Overflow (pos 0) w)
+    (λ v. either (pc, w.turns) (in_width n (v +ℤ d)) (on_found (stored w.words x (v +ℤ d)) (λ l. Next rest (with_memory w l))) (Traps trap.Overflow (pos 0) w) (store pc (stored w.words x (v +ℤ d)) rest w) (same w.turns))))
 row_falls img u m p fb pc op.Dec a b ops w =
-    width (pc, w.turns) a (λ n. on_two ops (λ x d rest. on_found (word_at w.words x) (λ v. if in_width n (v -ℤ d) then on_found (stored w.words x (v -ℤ d)) (λ l. Next rest (with_memory w l)) else Traps 8 (pos 0) w)))
-    (λ n. two (pc, w.turns) ops (λ x d rest. on_found (word_at w.words x) (λ v. if in_width n (v -ℤ d) then on_found (stored w.words x (v -ℤ d)) (λ l. Next rest (with_memory w l)) else Traps 8 (pos 0) w))
-    (λ x d rest. found (pc, w.turns) (word_at w.words x) (λ v. if in_width n (v -ℤ d) then on_found (stored w.words x (v -ℤ d)) (λ l. Next rest (with_memory w l)) else Traps 8 (pos 0) w)
-    (λ v. either (pc, w.turns) (in_width n (v -ℤ d)) (on_found (stored w.words x (v -ℤ d)) (λ l. Next rest (with_memory w l))) (Traps 8 (pos 0) w) (store pc (stored w.words x (v -ℤ d)) rest w) (same w.turns))))
+    width (pc, w.turns) a (λ n. on_two ops (λ x d rest. on_found (word_at w.words x) (λ v. if in_width n (v -ℤ d) then on_found (stored w.words x (v -ℤ d)) (λ l. Next rest (with_memory w l)) else Traps trap.Overflow (pos 0) w)))
+    (λ n. two (pc, w.turns) ops (λ x d rest. on_found (word_at w.words x) (λ v. if in_width n (v -ℤ d) then on_found (stored w.words x (v -ℤ d)) (λ l. Next rest (with_memory w l)) else Traps trap.Overflow (pos 0) w))
+    (λ x d rest. found (pc, w.turns) (word_at w.words x) (λ v. if in_width n (v -ℤ d) then on_found (stored w.words x (v -ℤ d)) (λ l. Next rest (with_memory w l)) else Traps trap.Overflow (pos 0) w)
+    (λ v. either (pc, w.turns) (in_width n (v -ℤ d)) (on_found (stored w.words x (v -ℤ d)) (λ l. Next rest (with_memory w l))) (Traps trap.Overflow (pos 0) w) (store pc (stored w.words x (v -ℤ d)) rest w) (same w.turns))))
 row_falls img u m p fb pc op.StrRel a b ops w =
     found (pc, w.turns) (below 6 a) (λ r. on_four ops (λ x l y n rest. on_both (chars_at w.words x l) (chars_at w.words y n) w (λ s t. Next (truth (related r s t) ∷ rest) w)))
     (λ r. four (pc, w.turns) ops (λ x l y n rest. on_both (chars_at w.words x l) (chars_at w.words y n) w (λ s t. Next (truth (related r s t) ∷ rest) w)) (λ x l y n rest. both pc (chars_at w.words x l) (chars_at w.words y n) w (λ s t. Next (truth (related r s t) ∷ rest) w) (λ s t. same w.turns)))
@@ -270,8 +272,8 @@ row_falls img u m p fb pc op.Jump a b ops w = found (pc, w.turns) (below (length
 row_falls img u m p fb pc op.JumpF a b ops w =
     found (pc, w.turns) (below (length u.code) a) (λ at. on_one ops (λ v rest. if is_zero v then jumped pc at rest w else Next rest w))
     (λ at. one (pc, w.turns) ops (λ v rest. if is_zero v then jumped pc at rest w else Next rest w) (λ v rest. either (pc, w.turns) (is_zero v) (jumped pc at rest w) (Next rest w) (jumps pc at rest w) (same w.turns)))
-row_falls img u m p fb pc op.Trap a b ops w = found (pc, w.turns) (up_to 16 a) (λ kind. Traps kind b w) (λ kind. same w.turns)
-row_falls img u m p fb pc op.Assert a b ops w = one (pc, w.turns) ops (λ v rest. if is_zero v then Traps 10 a w else Next rest w) (λ v rest. either (pc, w.turns) (is_zero v) (Traps 10 a w) (Next rest w) (same w.turns) (same w.turns))
+row_falls img u m p fb pc op.Trap a b ops w = found (pc, w.turns) (trap_of a) (λ kind. Traps kind b w) (λ kind. same w.turns)
+row_falls img u m p fb pc op.Assert a b ops w = one (pc, w.turns) ops (λ v rest. if is_zero v then Traps trap.AssertionFails a w else Next rest w) (λ v rest. either (pc, w.turns) (is_zero v) (Traps trap.AssertionFails a w) (Next rest w) (same w.turns) (same w.turns))
 row_falls img u m p fb pc op.NewR a b ops w =
     found (pc, w.turns) (item u.types a) (λ t. on_found (slice_get img.types t) (λ d. on_one ops (λ x rest. where_there w x (made x (tag t ∷ []) d.words rest w))))
     (λ t. found (pc, w.turns) (slice_get img.types t) (λ d. on_one ops (λ x rest. where_there w x (made x (tag t ∷ []) d.words rest w)))
@@ -283,15 +285,15 @@ row_falls img u m p fb pc op.ProcX a b ops w = found (pc, w.turns) (item u.proce
 row_falls img u m p fb pc op.Call a b ops w = found (pc, w.turns) (below (length u.procedures) a) (λ q. calls_with img (record { «module» = m; proc = q }) ops w) (λ q. call_with pc img (record { «module» = m; proc = q }) ops w)
 row_falls img u m p fb pc op.CallX a b ops w = found (pc, w.turns) (item u.procedure_links a) (λ r. calls_with img r ops w) (λ r. call_with pc img r ops w)
 row_falls img u m p fb pc op.CallV a b ops w =
-    count (pc, w.turns) a (λ n. on_args n ops (λ args rest. on_one rest (λ v below. if is_zero v then Traps 2 (pos 0) w else on_found (proc_of_value v) (λ r. calls img r args below w))))
-    (λ n. args (pc, w.turns) n ops (λ args rest. on_one rest (λ v below. if is_zero v then Traps 2 (pos 0) w else on_found (proc_of_value v) (λ r. calls img r args below w)))
-    (λ l rest. one (pc, w.turns) rest (λ v below. if is_zero v then Traps 2 (pos 0) w else on_found (proc_of_value v) (λ r. calls img r l below w))
-    (λ v low. either (pc, w.turns) (is_zero v) (Traps 2 (pos 0) w) (on_found (proc_of_value v) (λ r. calls img r l low w)) (same w.turns) (found (pc, w.turns) (proc_of_value v) (λ r. calls img r l low w) (λ r. call pc img r l low w)))))
+    count (pc, w.turns) a (λ n. on_args n ops (λ args rest. on_one rest (λ v below. if is_zero v then Traps trap.Nil (pos 0) w else on_found (proc_of_value v) (λ r. calls img r args below w))))
+    (λ n. args (pc, w.turns) n ops (λ args rest. on_one rest (λ v below. if is_zero v then Traps trap.Nil (pos 0) w else on_found (proc_of_value v) (λ r. calls img r args below w)))
+    (λ l rest. one (pc, w.turns) rest (λ v below. if is_zero v then Traps trap.Nil (pos 0) w else on_found (proc_of_value v) (λ r. calls img r l below w))
+    (λ v low. either (pc, w.turns) (is_zero v) (Traps trap.Nil (pos 0) w) (on_found (proc_of_value v) (λ r. calls img r l low w)) (same w.turns) (found (pc, w.turns) (proc_of_value v) (λ r. calls img r l low w) (λ r. call pc img r l low w)))))
 row_falls img u m p fb pc op.CallP a b ops w =
-    count (pc, w.turns) b (λ n. on_args (suc n) ops (λ args rest. on_receiver args (λ x. if is_zero x then Traps 2 (pos 0) w else pointer_method img w x a (λ r. calls img r args rest w))))
-    (λ n. args (pc, w.turns) (suc n) ops (λ args rest. on_receiver args (λ x. if is_zero x then Traps 2 (pos 0) w else pointer_method img w x a (λ r. calls img r args rest w)))
-    (λ l rest. receiver (pc, w.turns) l (λ x. if is_zero x then Traps 2 (pos 0) w else pointer_method img w x a (λ r. calls img r l rest w))
-    (λ x. either (pc, w.turns) (is_zero x) (Traps 2 (pos 0) w) (pointer_method img w x a (λ r. calls img r l rest w)) (same w.turns) (method pc img w x a (λ r. calls img r l rest w) (λ r. call pc img r l rest w)))))
+    count (pc, w.turns) b (λ n. on_args (suc n) ops (λ args rest. on_receiver args (λ x. if is_zero x then Traps trap.Nil (pos 0) w else pointer_method img w x a (λ r. calls img r args rest w))))
+    (λ n. args (pc, w.turns) (suc n) ops (λ args rest. on_receiver args (λ x. if is_zero x then Traps trap.Nil (pos 0) w else pointer_method img w x a (λ r. calls img r args rest w)))
+    (λ l rest. receiver (pc, w.turns) l (λ x. if is_zero x then Traps trap.Nil (pos 0) w else pointer_method img w x a (λ r. calls img r l rest w))
+    (λ x. either (pc, w.turns) (is_zero x) (Traps trap.Nil (pos 0) w) (pointer_method img w x a (λ r. calls img r l rest w)) (same w.turns) (method pc img w x a (λ r. calls img r l rest w) (λ r. call pc img r l rest w)))))
 row_falls img u m p fb pc op.CallR a b ops w =
     count (pc, w.turns) b (λ n. on_args (suc (suc n)) ops (λ args rest. on_tag args (λ g. on_found (tag_method img g a) (λ r. calls img r args rest w))))
     (λ n. args (pc, w.turns) (suc (suc n)) ops (λ args rest. on_tag args (λ g. on_found (tag_method img g a) (λ r. calls img r args rest w)))
@@ -327,7 +329,7 @@ come_under img u m p fb acts pc v (Next ops w) n short h lt = forth w.turns v.tu
 come_under img u m p fb acts pc v (Goto at ops w) n short h lt = ⊎_elim (λ f. forth w.turns v.turns (length acts) at pc n short f lt) (λ s. spent w.turns v.turns (length acts) (length acts) at pc n s (omega arith) lt) h
 come_under img u m p fb acts pc v (Enter r q args k ops w) n short h lt =
     let need = slots q.params + q.locals + k in
-    point_either n (has_room img.room need acts w) (Go r.module r.proc w.stack (record { m = m; p = p; fb = fb; pc = suc pc; ops = ops } ∷ acts) q.entry [] (record w { words = entered w.words w.stack q args; stack = w.stack + need })) (Over (Trapped 13 (pos 0) m (position_at u.positions pc)) w) (spent w.turns v.turns (length acts) (suc (length acts)) q.entry pc n h (same (suc (length acts))) lt) tt
+    point_either n (has_room img.room need acts w) (Go r.module r.proc w.stack (record { m = m; p = p; fb = fb; pc = suc pc; ops = ops } ∷ acts) q.entry [] (record w { words = entered w.words w.stack q args; stack = w.stack + need })) (Over (Trapped trap.StackFull (pos 0) m (position_at u.positions pc)) w) (spent w.turns v.turns (length acts) (suc (length acts)) q.entry pc n h (same (suc (length acts))) lt) tt
 come_under img u m p fb acts pc v (Leave given w) n short h lt = left_under n fb acts given w (omega arith)
 come_under img u m p fb acts pc v (Traps kind number w) n short h lt = tt
 come_under img u m p fb acts pc v (Spends w) n short h lt = tt

@@ -5,6 +5,7 @@ use Rattle.std.proofs.lemmas.Bool.{cases_lt}
 use Rattle.std.proofs.lemmas.Bool.Decides.{nat_tests}
 use Rattle.std.proofs.lemmas.List.{append-nil, length-reverse}
 use Rattle.std.proofs.lemmas.Option.{slice_get_past}
+use Rattle.ob_trap.specs.declared.trap.Trap.{Trap}
 use Rattle.ob_io.specs.Fronts.{front_later}
 use Rattle.ob_instr.specs.declared.instr.Instr.{Instr}
 use Rattle.ob_instr.specs.Image as image
@@ -97,7 +98,7 @@ is_done img u here new acts now old s i at er code c = record {
   turn = λ out. record { steps = 1; end = image.Done; comes = called_step img u here new acts now old s i called.Done at er code c out; is = refl };
 }
 
-pub traps : (img : Image) (u : ModuleImage) (here new : Place) (acts now : List Act) (old s : State) (i : Instr) (kind : ℕ) → slice_get img.modules here.unit ≡ Some u → img.room ≡ room → slice_get u.code here.next ≡ Some i → reaching.Comes img (row img u here.unit here.procedure here.first here.next i.op i.a i.b (ops_of old)) here new acts now old s (called.Traps kind) → CallDoes img here new acts now old s (Some (outcome.Trap kind (pos 0) u.name (position_at u.positions here.next)))
+pub traps : (img : Image) (u : ModuleImage) (here new : Place) (acts now : List Act) (old s : State) (i : Instr) (kind : Trap) → slice_get img.modules here.unit ≡ Some u → img.room ≡ room → slice_get u.code here.next ≡ Some i → reaching.Comes img (row img u here.unit here.procedure here.first here.next i.op i.a i.b (ops_of old)) here new acts now old s (called.Traps kind) → CallDoes img here new acts now old s (Some (outcome.Trap kind (pos 0) u.name (position_at u.positions here.next)))
 traps img u here new acts now old s i kind at er code c = record {
   turn = λ out. record {
     steps = 1;
@@ -152,7 +153,7 @@ ended img place here acts old out last end r em ef c is =
     let d = from_here img place here acts old out (Over end last) em ef c in
     record { steps = d.steps; end = end; comes = d.comes; is = is }
 
-pub leg_traps : (t : Bool) (b now : List ℕ) (img : Image) (u : ModuleImage) (place : effect_place.Place) (here : Place) (pc : ℕ) (acts : List Act) (old s : State) (kind : ℕ) (number : ℤ) → IsHere place u.code img u → place.«module» ≡ here.unit → place.frame ≡ here.first → TurnDoes t b now place u.code here.next pc old s (Some (pause.Traps kind number)) → LegDoes t b now img here (record here { next = pc }) acts acts old s (Some (outcome.Trap kind number u.name (position_at u.positions pc)))
+pub leg_traps : (t : Bool) (b now : List ℕ) (img : Image) (u : ModuleImage) (place : effect_place.Place) (here : Place) (pc : ℕ) (acts : List Act) (old s : State) (kind : Trap) (number : ℤ) → IsHere place u.code img u → place.«module» ≡ here.unit → place.frame ≡ here.first → TurnDoes t b now place u.code here.next pc old s (Some (pause.Traps kind number)) → LegDoes t b now img here (record here { next = pc }) acts acts old s (Some (outcome.Trap kind number u.name (position_at u.positions pc)))
 leg_traps t b now img u place here pc acts old s kind number h em ef d = record {
   piece = d.piece;
   leg = λ out. ended img place here acts old out (world_of s (out ++ d.piece)) (image.Trapped kind number place.«module» (position_at u.positions pc)) (outcome.Trap kind number u.name (position_at u.positions pc)) em ef (d.turn img u h here.procedure acts out) (ap (λ n. outcome.Trap kind number n (position_at u.positions pc)) (name_at img place.«module» u h.unit));

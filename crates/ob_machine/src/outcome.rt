@@ -1,5 +1,6 @@
 //! How a run ended.
 
+use ob_trap::Trap;
 use ob_tree::{Name, Pos};
 
 /// How a run ended.
@@ -7,11 +8,10 @@ use ob_tree::{Name, Pos};
 pub enum Outcome {
     /// The procedure that the run began in returned.
     Done,
-    /// An instruction of the module trapped, with this position. The kind is from 1 to 16, by the table;
-    /// the number is the operand that a `Trap` or an `Assert` of the code has for it, and 0 in every other
-    /// trap.
+    /// An instruction of the module trapped, with this position. The number is the operand that a `Trap`
+    /// or an `Assert` of the code has for it, and 0 in every other trap.
     Trap {
-        kind: u8,
+        kind: Trap,
         number: i32,
         module: Name,
         pos: Pos,

@@ -18,6 +18,7 @@ use ob_machine_fusion::Code;
 use ob_machine_image::{Callable, Image, Module};
 use ob_machine_loop::{Pause, go};
 use ob_machine_operands::State;
+use ob_trap::Trap;
 use ob_tree::{Pos, ProcRef};
 
 // The position of an instruction, where the list has it.
@@ -39,8 +40,8 @@ fn position_at(positions: &[Position], pc: u32) -> Pos
 enum Ending {
     // the procedure that the run began in returned
     Done,
-    // a trap of the instruction at an index, with its kind and the number that it tells
-    Trap { kind: u8, number: i32, at: u32 },
+    // a trap of the instruction at an index, with the number that it tells beside its own
+    Trap { kind: Trap, number: i32, at: u32 },
     // no turn was left for the instruction at an index
     TurnsSpent { at: u32 },
     // the instruction at an index cannot be executed, or there is none

@@ -1,6 +1,7 @@
 -- What a call comes to.
 use Rattle.std.proofs.Common.{◌≡◌, ℕ, suc, ◌+◌, true, false, List, [], ◌∷◌, length, Some, None, refl, ◌∙◌}
 use Rattle.std.specs.Prelude.{ℤ, nat_le, nat_lt, ◌&&◌}
+use Rattle.ob_trap.specs.declared.trap.Trap.TheVariants as trap
 use Rattle.ob_tree.specs.declared.proc_ref.ProcRef.{ProcRef}
 use Rattle.ob_instr.specs.declared.procedure.Procedure.{Procedure}
 use Rattle.ob_instr.specs.Parts.{slots}
@@ -20,7 +21,7 @@ call_enters img u m p fb acts pc w r q args ops n t e1 e2 e3 = rw (e1, e2, e3) r
 room_is : (img : Image) (need : ℕ) (acts : List Act) (w : World) → img.room ≡ room → has_room img.room need acts w ≡ (nat_le (w.stack + need) 1310721 && nat_lt (suc (length acts)) 4096)
 room_is img need acts w e = rw e refl
 
-pub has_no_room : (img : Image) (here : Place) (acts : List Act) (s s_new : State) (r : ProcRef) (q : Procedure) (args ops : List ℤ) (n t : ℕ) → img.room ≡ room → procedure_of img r ≡ Some q → copy_words (length s.words.words) q.params args ≡ Some n → s.turns ≡ suc t → (nat_le (s.stack + (slots q.params + q.locals + n)) 1310721 && nat_lt (suc (length acts)) 4096) ≡ false → s_new ≡ record s { turns = t } → Comes img (calls img r args ops) here here acts acts s s_new (called.Traps 13)
+pub has_no_room : (img : Image) (here : Place) (acts : List Act) (s s_new : State) (r : ProcRef) (q : Procedure) (args ops : List ℤ) (n t : ℕ) → img.room ≡ room → procedure_of img r ≡ Some q → copy_words (length s.words.words) q.params args ≡ Some n → s.turns ≡ suc t → (nat_le (s.stack + (slots q.params + q.locals + n)) 1310721 && nat_lt (suc (length acts)) 4096) ≡ false → s_new ≡ record s { turns = t } → Comes img (calls img r args ops) here here acts acts s s_new (called.Traps trap.StackFull)
 has_no_room img here acts s s_new r q args ops n t er ep ec et eb es = λ u out.
     let v : World = record (world_of s out) { turns = t } in
     let test = room_is img (slots q.params + q.locals + n) acts v er ∙ eb in

@@ -3,6 +3,7 @@ use Rattle.std.proofs.Common.{◌≡◌, ℕ, zero, suc, ◌+◌, ◌<◌, Bool,
 use Rattle.std.specs.Prelude.{ℤ, pos, negsuc, if◌then◌else◌, nat_le, slice_get}
 use Rattle.std.specs.List.{AllByRecursion}
 use Rattle.std.proofs.lemmas.Option.{slice_get_within, none-some}
+use Rattle.ob_trap.specs.declared.trap.Trap.TheVariants as trap
 use Rattle.ob_tree.specs.declared.proc_ref.ProcRef.{ProcRef}
 use Rattle.ob_instr.specs.declared.opcode.Opcode.{Opcode}
 use Rattle.ob_instr.specs.declared.opcode.Opcode.TheVariants as op
@@ -76,8 +77,8 @@ module _ (img : Image) (w : World) where
   calls_row : (u : ModuleImage) (m p fb pc : ℕ) (o : Opcode) (a b : ℤ) (ops : List ℤ) → is_call o ≡ true → IsCall (row img u m p fb pc o a b ops w)
   calls_row u m p fb pc op.Call a b ops e = found (below (length u.procedures) a) _ (λ q eq. called_with _ ops)
   calls_row u m p fb pc op.CallX a b ops e = found (item u.procedure_links a) _ (λ r er. called_with r ops)
-  calls_row u m p fb pc op.CallV a b ops e = counted a _ (λ n. args_of n ops _ (λ args rest. one rest _ (λ v below. either (is_zero v) (Traps 2 (pos 0) w) _ tt (found (proc_of_value v) _ (λ r er. called_by r args below)))))
-  calls_row u m p fb pc op.CallP a b ops e = counted b _ (λ n. args_of (suc n) ops _ (λ args rest. receiver args _ (λ x. either (is_zero x) (Traps 2 (pos 0) w) _ tt (by_pointer x a _ (λ r. called_by r args rest)))))
+  calls_row u m p fb pc op.CallV a b ops e = counted a _ (λ n. args_of n ops _ (λ args rest. one rest _ (λ v below. either (is_zero v) (Traps trap.Nil (pos 0) w) _ tt (found (proc_of_value v) _ (λ r er. called_by r args below)))))
+  calls_row u m p fb pc op.CallP a b ops e = counted b _ (λ n. args_of (suc n) ops _ (λ args rest. receiver args _ (λ x. either (is_zero x) (Traps trap.Nil (pos 0) w) _ tt (by_pointer x a _ (λ r. called_by r args rest)))))
   calls_row u m p fb pc op.CallR a b ops e = counted b _ (λ n. args_of (suc (suc n)) ops _ (λ args rest. tag_of args _ (λ g. found (tag_method img g a) _ (λ r er. called_by r args rest))))
   calls_row u m p fb pc op.CallS a b ops e = found (item u.types a) _ (λ t et. found (method_at (slice_get img.types t) b) _ (λ r er. called_with r ops))
   calls_row u m p fb pc op.Ret a b ops e = found (slice_get u.procedures p) _ (λ q eq. either q.has_result Unable (Leave [] w) tt refl)

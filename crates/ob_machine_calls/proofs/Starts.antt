@@ -4,6 +4,7 @@ use Rattle.std.specs.Prelude.{ℤ, pos, negsuc, reverse, nat_le, if◌then◌els
 use Rattle.std.proofs.lemmas.Bool.Decides.{nat_tests}
 use Rattle.std.proofs.lemmas.Option.{slice_get_within, get_or_from_slice_get}
 use Rattle.std.proofs.lemmas.List.{take_all, take_more, drop_more, reverse-append}
+use Rattle.ob_trap.specs.declared.trap.Trap.TheVariants as trap
 use Rattle.ob_tree.specs.declared.proc_ref.ProcRef.{ProcRef}
 use Rattle.ob_instr.specs.Image.{Image, World}
 use Rattle.ob_instr.specs.Rows.{Effect, Traps, Unable, on_found, on_count, on_args, on_one, on_receiver, on_tag, is_zero, calls, proc_of_value, tag_method, pointer_method}
@@ -50,30 +51,30 @@ not_zero (negsuc z) n = refl
 
 module _ (img : Image) (xs : List ℤ) (w : World) where
   abbrev value_part : List ℤ → List ℤ → Effect
-  value_part args rest = on_one rest (λ v below. if is_zero v then Traps 2 (pos 0) w else on_found (proc_of_value v) (λ r. calls img r args below w))
+  value_part args rest = on_one rest (λ v below. if is_zero v then Traps trap.Nil (pos 0) w else on_found (proc_of_value v) (λ r. calls img r args below w))
 
-  pub value_found : (a : ℤ) (from below : ℕ) (v : ℤ) → Some from ≡ start_of (length xs) a 0 → from ≡ below + 1 → slice_get xs below ≡ Some v → on_count a (λ n. on_args n (reverse xs) (λ args rest. on_one rest (λ v below. if is_zero v then Traps 2 (pos 0) w else on_found (proc_of_value v) (λ r. calls img r args below w)))) ≡ (if is_zero v then Traps 2 (pos 0) w else on_found (proc_of_value v) (λ r. calls img r (drop from xs) (reverse (take below xs)) w))
+  pub value_found : (a : ℤ) (from below : ℕ) (v : ℤ) → Some from ≡ start_of (length xs) a 0 → from ≡ below + 1 → slice_get xs below ≡ Some v → on_count a (λ n. on_args n (reverse xs) (λ args rest. on_one rest (λ v below. if is_zero v then Traps trap.Nil (pos 0) w else on_found (proc_of_value v) (λ r. calls img r args below w)))) ≡ (if is_zero v then Traps trap.Nil (pos 0) w else on_found (proc_of_value v) (λ r. calls img r (drop from xs) (reverse (take below xs)) w))
   value_found a from below v e eb ev =
       let ops : reverse (take from xs) ≡ v ∷ reverse (take below xs) = ap (λ k. reverse (take k xs)) eb ∙ last_one xs below v ev in
-      from_start xs a 0 (λ n. n) value_part (Some from) (if is_zero v then Traps 2 (pos 0) w else on_found (proc_of_value v) (λ r. calls img r (drop from xs) (reverse (take below xs)) w)) (λ n. omega arith) e (ap (value_part (drop from xs)) ops)
+      from_start xs a 0 (λ n. n) value_part (Some from) (if is_zero v then Traps trap.Nil (pos 0) w else on_found (proc_of_value v) (λ r. calls img r (drop from xs) (reverse (take below xs)) w)) (λ n. omega arith) e (ap (value_part (drop from xs)) ops)
 
-  pub value_called : (a : ℤ) (from below : ℕ) (v : ℤ) (o : Option ProcRef) → Some from ≡ start_of (length xs) a 0 → from ≡ below + 1 → slice_get xs below ≡ Some v → (v ≡ pos 0 → ⊥) → o ≡ proc_of_value v → on_count a (λ n. on_args n (reverse xs) (λ args rest. on_one rest (λ v below. if is_zero v then Traps 2 (pos 0) w else on_found (proc_of_value v) (λ r. calls img r args below w)))) ≡ on_found o (λ r. calls img r (drop from xs) (reverse (take below xs)) w)
-  value_called a from below v o e eb ev n eo = value_found a from below v e eb ev ∙ ap (λ b. if b then Traps 2 (pos 0) w else on_found (proc_of_value v) (λ r. calls img r (drop from xs) (reverse (take below xs)) w)) (not_zero v n) ∙ ap (λ o. on_found o (λ r. calls img r (drop from xs) (reverse (take below xs)) w)) (sym eo)
+  pub value_called : (a : ℤ) (from below : ℕ) (v : ℤ) (o : Option ProcRef) → Some from ≡ start_of (length xs) a 0 → from ≡ below + 1 → slice_get xs below ≡ Some v → (v ≡ pos 0 → ⊥) → o ≡ proc_of_value v → on_count a (λ n. on_args n (reverse xs) (λ args rest. on_one rest (λ v below. if is_zero v then Traps trap.Nil (pos 0) w else on_found (proc_of_value v) (λ r. calls img r args below w)))) ≡ on_found o (λ r. calls img r (drop from xs) (reverse (take below xs)) w)
+  value_called a from below v o e eb ev n eo = value_found a from below v e eb ev ∙ ap (λ b. if b then Traps trap.Nil (pos 0) w else on_found (proc_of_value v) (λ r. calls img r (drop from xs) (reverse (take below xs)) w)) (not_zero v n) ∙ ap (λ o. on_found o (λ r. calls img r (drop from xs) (reverse (take below xs)) w)) (sym eo)
 
   -- POINTERS
 
   abbrev pointer_part : ℤ → List ℤ → List ℤ → Effect
-  pointer_part number args rest = on_receiver args (λ x. if is_zero x then Traps 2 (pos 0) w else pointer_method img w x number (λ r. calls img r args rest w))
+  pointer_part number args rest = on_receiver args (λ x. if is_zero x then Traps trap.Nil (pos 0) w else pointer_method img w x number (λ r. calls img r args rest w))
 
-  pub pointer_found : (b number : ℤ) (from : ℕ) (x : ℤ) → Some from ≡ start_of (length xs) b 1 → slice_get xs from ≡ Some x → on_count b (λ n. on_args (suc n) (reverse xs) (λ args rest. on_receiver args (λ x. if is_zero x then Traps 2 (pos 0) w else pointer_method img w x number (λ r. calls img r args rest w)))) ≡ (if is_zero x then Traps 2 (pos 0) w else pointer_method img w x number (λ r. calls img r (drop from xs) (reverse (take from xs)) w))
+  pub pointer_found : (b number : ℤ) (from : ℕ) (x : ℤ) → Some from ≡ start_of (length xs) b 1 → slice_get xs from ≡ Some x → on_count b (λ n. on_args (suc n) (reverse xs) (λ args rest. on_receiver args (λ x. if is_zero x then Traps trap.Nil (pos 0) w else pointer_method img w x number (λ r. calls img r args rest w)))) ≡ (if is_zero x then Traps trap.Nil (pos 0) w else pointer_method img w x number (λ r. calls img r (drop from xs) (reverse (take from xs)) w))
   pointer_found b number from x e ex =
       let rest = reverse (take from xs) in
       let args : drop from xs ≡ x ∷ drop (from + 1) xs = first_one xs from x ex in
-      let at : on_receiver (drop from xs) (λ y. if is_zero y then Traps 2 (pos 0) w else pointer_method img w y number (λ r. calls img r (drop from xs) rest w)) ≡ (if is_zero x then Traps 2 (pos 0) w else pointer_method img w x number (λ r. calls img r (drop from xs) rest w)) = ap (λ l. on_receiver l (λ y. if is_zero y then Traps 2 (pos 0) w else pointer_method img w y number (λ r. calls img r (drop from xs) rest w))) args in
-      from_start xs b 1 suc (pointer_part number) (Some from) (if is_zero x then Traps 2 (pos 0) w else pointer_method img w x number (λ r. calls img r (drop from xs) rest w)) (λ n. omega arith) e at
+      let at : on_receiver (drop from xs) (λ y. if is_zero y then Traps trap.Nil (pos 0) w else pointer_method img w y number (λ r. calls img r (drop from xs) rest w)) ≡ (if is_zero x then Traps trap.Nil (pos 0) w else pointer_method img w x number (λ r. calls img r (drop from xs) rest w)) = ap (λ l. on_receiver l (λ y. if is_zero y then Traps trap.Nil (pos 0) w else pointer_method img w y number (λ r. calls img r (drop from xs) rest w))) args in
+      from_start xs b 1 suc (pointer_part number) (Some from) (if is_zero x then Traps trap.Nil (pos 0) w else pointer_method img w x number (λ r. calls img r (drop from xs) rest w)) (λ n. omega arith) e at
 
-  pub pointer_called : (b number : ℤ) (from : ℕ) (x : ℤ) (o : Option ProcRef) → Some from ≡ start_of (length xs) b 1 → slice_get xs from ≡ Some x → (x ≡ pos 0 → ⊥) → ((k : ProcRef → Effect) → pointer_method img w x number k ≡ on_found o k) → on_count b (λ n. on_args (suc n) (reverse xs) (λ args rest. on_receiver args (λ x. if is_zero x then Traps 2 (pos 0) w else pointer_method img w x number (λ r. calls img r args rest w)))) ≡ on_found o (λ r. calls img r (drop from xs) (reverse (take from xs)) w)
-  pointer_called b number from x o e ex n eo = pointer_found b number from x e ex ∙ ap (λ b. if b then Traps 2 (pos 0) w else pointer_method img w x number (λ r. calls img r (drop from xs) (reverse (take from xs)) w)) (not_zero x n) ∙ eo (λ r. calls img r (drop from xs) (reverse (take from xs)) w)
+  pub pointer_called : (b number : ℤ) (from : ℕ) (x : ℤ) (o : Option ProcRef) → Some from ≡ start_of (length xs) b 1 → slice_get xs from ≡ Some x → (x ≡ pos 0 → ⊥) → ((k : ProcRef → Effect) → pointer_method img w x number k ≡ on_found o k) → on_count b (λ n. on_args (suc n) (reverse xs) (λ args rest. on_receiver args (λ x. if is_zero x then Traps trap.Nil (pos 0) w else pointer_method img w x number (λ r. calls img r args rest w)))) ≡ on_found o (λ r. calls img r (drop from xs) (reverse (take from xs)) w)
+  pointer_called b number from x o e ex n eo = pointer_found b number from x e ex ∙ ap (λ b. if b then Traps trap.Nil (pos 0) w else pointer_method img w x number (λ r. calls img r (drop from xs) (reverse (take from xs)) w)) (not_zero x n) ∙ eo (λ r. calls img r (drop from xs) (reverse (take from xs)) w)
 
   -- RECORDS
 

@@ -1,5 +1,6 @@
 -- What the instruction of a call names.
 use Rattle.std.specs.Prelude.{◌≤◌, Bool, true, false, List, length, take, drop, reverse, ℤ, pos}
+use Rattle.ob_trap.specs.declared.trap.Trap.TheVariants as trap
 use Rattle.ob_instr.specs.declared.opcode.Opcode.{Opcode}
 use Rattle.ob_instr.specs.declared.opcode.Opcode.TheVariants as op
 use Rattle.ob_instr.specs.Image.{Image, World}
@@ -11,7 +12,7 @@ use Rattle.ob_machine_calls.specs.declared.callee.Callee.TheVariants as callee
 abbrev pub callee_effect : Image → List ℤ → Callee → World → Effect
 callee_effect img operands (callee.With r) w = calls_with img r (reverse operands) w
 callee_effect img operands (callee.At r from below) w = calls img r (drop from operands) (reverse (take below operands)) w
-callee_effect img operands callee.Nil w = Traps 2 (pos 0) w
+callee_effect img operands callee.Nil w = Traps trap.Nil (pos 0) w
 callee_effect img operands callee.Unable w = Unable
 
 -- the operands that it names are there

@@ -12,6 +12,7 @@ use crate::entering::enter_words;
 use ob_machine_image::{Callable, Image};
 use ob_machine_operands::State;
 use ob_mem::Memory;
+use ob_trap::Trap;
 use ob_tree::ProcRef;
 
 /// What a call or a return came to.
@@ -21,8 +22,8 @@ pub enum Called {
     Goes,
     /// The run is over.
     Done,
-    /// A trap of this kind, whose number is 0.
-    Traps(u8),
+    /// A trap, which tells no number beside its own.
+    Traps(Trap),
     /// No turn was left.
     Spends,
     /// The instruction cannot be executed.
@@ -85,7 +86,7 @@ pub fn call(
     let need = args.len() as u64 + u64::from(q.locals()) + copies;
     state.turns -= 1;
     if !has_room(state.stack, need, waiting.len()) {
-        return Called::Traps(13);
+        return Called::Traps(Trap::StackFull);
     }
     enter_call(
         &mut state.words,

@@ -6,6 +6,7 @@ ghost use Rattle.ob_instr.specs.Image.{Image as Modules, World};
 ghost use Rattle.ob_instr.specs.Rows.{Effect, Traps, Unable, on_found, on_count, on_args, on_one, on_receiver, on_tag, item, is_zero, calls, calls_with, proc_of_value, method_at, tag_method, pointer_method};
 ghost use Rattle.ob_machine_calls.specs.Callees.{callee_effect, IsWithin};
 ghost use Rattle.ob_machine_calls.specs.Starts.{start_of};
+ghost use Rattle.ob_trap.specs.declared.trap.Trap.TheVariants as trap;
 
 use crate::callee::Callee;
 use ob_instr::Instr;
@@ -56,7 +57,7 @@ fn procedure_of_value(value: i32) -> Option<ProcRef>
 
 /// What a call of a procedure value names.
 pub fn of_value(instr: Instr, operands: &[i32]) -> Callee
-    ensures effect { (img : Modules) (w : World) → on_count instr.a (λ n. on_args n (reverse operands.now) (λ args rest. on_one rest (λ v below. if is_zero v then Traps 2 (pos 0) w else on_found (proc_of_value v) (λ r. calls img r args below w)))) ≡ callee_effect img operands.now result w }
+    ensures effect { (img : Modules) (w : World) → on_count instr.a (λ n. on_args n (reverse operands.now) (λ args rest. on_one rest (λ v below. if is_zero v then Traps trap.Nil (pos 0) w else on_found (proc_of_value v) (λ r. calls img r args below w)))) ≡ callee_effect img operands.now result w }
     ensures within { IsWithin operands.now result }
 {
     let Some(from) = start_of(operands.len(), instr.a, 0) else {
@@ -114,7 +115,7 @@ fn pointer_method(image: &Image, words: &Memory, pointer: i32, number: i32) -> O
 /// What a call of a procedure bound to a pointer's object names.
 #[inline(always)]
 pub fn of_pointer(image: &Image, words: &Memory, instr: Instr, operands: &[i32]) -> Callee
-    ensures effect { (w : World) → w.words ≡ words.now.words → on_count instr.b (λ n. on_args (suc n) (reverse operands.now) (λ args rest. on_receiver args (λ x. if is_zero x then Traps 2 (pos 0) w else pointer_method image.now w x instr.a (λ r. calls image.now r args rest w)))) ≡ callee_effect image.now operands.now result w }
+    ensures effect { (w : World) → w.words ≡ words.now.words → on_count instr.b (λ n. on_args (suc n) (reverse operands.now) (λ args rest. on_receiver args (λ x. if is_zero x then Traps trap.Nil (pos 0) w else pointer_method image.now w x instr.a (λ r. calls image.now r args rest w)))) ≡ callee_effect image.now operands.now result w }
     ensures within { IsWithin operands.now result }
 {
     let Some(from) = start_of(operands.len(), instr.b, 1) else {

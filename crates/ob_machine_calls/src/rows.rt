@@ -12,6 +12,7 @@ use crate::calling::{Called, call, procedure_of};
 use crate::calls::{Calls, Place};
 use ob_machine_image::{Callable, Image, Module};
 use ob_machine_operands::State;
+use ob_trap::Trap;
 use ob_tree::ProcRef;
 
 // A call of a procedure with as many operands as it has slots.
@@ -159,7 +160,7 @@ pub fn call_it(
             from,
             below,
         } => call_from(image, here, waiting, state, procedure, from, below),
-        Callee::Nil => Called::Traps(2),
+        Callee::Nil => Called::Traps(Trap::Nil),
         Callee::Unable => Called::Unable,
     }
 }

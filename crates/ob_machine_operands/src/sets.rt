@@ -5,16 +5,18 @@ ghost use Rattle.std.specs.Int.{w32, int_bit_and, int_bit_or, int_bit_xor, int_b
 ghost use Rattle.ob_instr.specs.Image.{World};
 ghost use Rattle.ob_instr.specs.Rows.{Effect, Next, Traps, on_one, on_two, on_element, set_from, has_element, truth};
 ghost use Rattle.ob_machine_operands.specs.Effects.{Does, Keeps};
+ghost use Rattle.ob_trap.specs.declared.trap.Trap.TheVariants as trap;
 
 use crate::numbers::power;
 use crate::operands::{take, take_two};
 use crate::state::{State, Step};
 use crate::values::push;
+use ob_trap::Trap;
 
 /// The element of a set that a word is; `None` exactly where it is not from 0 to 31.
 pub fn element(word: i32) -> Option<u32>
     ensures some { IfSome result (λ i. (word ≡ pos i) × (i < 32)) }
-    ensures none { IfNone result ((w : World) → (k : ℕ → Effect) → on_element word w k ≡ Traps 9 (pos 0) w) }
+    ensures none { IfNone result ((w : World) → (k : ℕ → Effect) → on_element word w k ≡ Traps trap.NoElement (pos 0) w) }
 {
     if word < 0 || word >= 32 {
         return None;
@@ -141,7 +143,10 @@ pub fn bit(state: &mut State) -> Step
         return Step::Unable;
     };
     let Some(i) = element(v) else {
-        return Step::Traps { kind: 9, number: 0 };
+        return Step::Traps {
+            kind: Trap::NoElement,
+            number: 0,
+        };
     };
     push(state, set_of(i, i))
 }
@@ -158,10 +163,16 @@ pub fn bits(state: &mut State) -> Step
         return Step::Unable;
     };
     let Some(i) = element(x) else {
-        return Step::Traps { kind: 9, number: 0 };
+        return Step::Traps {
+            kind: Trap::NoElement,
+            number: 0,
+        };
     };
     let Some(j) = element(y) else {
-        return Step::Traps { kind: 9, number: 0 };
+        return Step::Traps {
+            kind: Trap::NoElement,
+            number: 0,
+        };
     };
     push(state, set_of(i, j))
 }
@@ -178,7 +189,10 @@ pub fn contains(state: &mut State) -> Step
         return Step::Unable;
     };
     let Some(i) = element(v) else {
-        return Step::Traps { kind: 9, number: 0 };
+        return Step::Traps {
+            kind: Trap::NoElement,
+            number: 0,
+        };
     };
     push(state, i32::from(has(set, i)))
 }

@@ -1,6 +1,7 @@
 //! What the instructions change.
 
 use ob_mem::Memory;
+use ob_trap::Trap;
 
 /// What the instructions change.
 #[derive(Drop)]
@@ -22,8 +23,8 @@ pub enum Step {
     Goes,
     /// The machine goes on at the instruction of an index.
     Jumps(u32),
-    /// A trap, with the number that it tells.
-    Traps { kind: u8, number: i32 },
+    /// A trap, with the number that it tells beside its own.
+    Traps { kind: Trap, number: i32 },
     /// No turn was left.
     Spends,
     /// The instruction cannot be executed.

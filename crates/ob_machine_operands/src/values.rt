@@ -4,6 +4,7 @@ ghost use Rattle.std.specs.Prelude.{◌≡◌, ◌≤◌, ◌∷◌, ℤ, pos, �
 ghost use Rattle.std.specs.Int.{int_div_euclid, int_rem_euclid};
 ghost use Rattle.ob_instr.specs.Rows.{Next, Traps, on_one, on_two, on_three, on_width, word, in_type, in_width, compared, truth, is_within, is_zero, magnitude, shifted, capital};
 ghost use Rattle.ob_machine_operands.specs.Effects.{Does, Keeps, holds_of};
+ghost use Rattle.ob_trap.specs.declared.trap.Trap.TheVariants as trap;
 
 use crate::numbers::{
     Comparison, Fit, capital, difference, element_at, fitted, is_within, negated, product, sum,
@@ -11,6 +12,7 @@ use crate::numbers::{
 };
 use crate::operands::{put, take, take_three, take_two};
 use crate::state::{State, Step};
+use ob_trap::Trap;
 
 /// One more operand.
 pub fn push(state: &mut State, value: i32) -> Step
@@ -49,7 +51,10 @@ pub fn push_in_type(state: &mut State, bytes: i32, number: i64) -> Step
 {
     match fitted(bytes, number) {
         Fit::Without => Step::Unable,
-        Fit::Outside => Step::Traps { kind: 8, number: 0 },
+        Fit::Outside => Step::Traps {
+            kind: Trap::Overflow,
+            number: 0,
+        },
         Fit::Inside(value) => push(state, value),
     }
 }
@@ -96,7 +101,7 @@ pub fn offset(state: &mut State, a: i32) -> Step
 pub fn index(state: &mut State, a: i32, b: i32) -> Step
     requires room { 257 ≤ vec_capacity state.old.operands }
     requires few { vec_len state.old.operands ≤ 256 }
-    ensures does { Does (λ ops w. on_two ops (λ x i rest. if is_within i a then word (x +ℤ (i *ℤ b)) rest w else Traps 1 (pos 0) w)) state.old state.new result }
+    ensures does { Does (λ ops w. on_two ops (λ x i rest. if is_within i a then word (x +ℤ (i *ℤ b)) rest w else Traps trap.IndexOutside (pos 0) w)) state.old state.new result }
     ensures keeps { Keeps state.old state.new result }
     ensures room { vec_capacity state.new.operands ≡ vec_capacity state.old.operands }
 {
@@ -104,7 +109,10 @@ pub fn index(state: &mut State, a: i32, b: i32) -> Step
         return Step::Unable;
     };
     if !is_within(i, a) {
-        return Step::Traps { kind: 1, number: 0 };
+        return Step::Traps {
+            kind: Trap::IndexOutside,
+            number: 0,
+        };
     }
     push_word(state, element_at(x, i, b))
 }
@@ -114,7 +122,7 @@ pub fn index(state: &mut State, a: i32, b: i32) -> Step
 pub fn index_open(state: &mut State, a: i32) -> Step
     requires room { 257 ≤ vec_capacity state.old.operands }
     requires few { vec_len state.old.operands ≤ 256 }
-    ensures does { Does (λ ops w. on_three ops (λ x l i rest. if is_within i l then word (x +ℤ (i *ℤ a)) rest w else Traps 1 (pos 0) w)) state.old state.new result }
+    ensures does { Does (λ ops w. on_three ops (λ x l i rest. if is_within i l then word (x +ℤ (i *ℤ a)) rest w else Traps trap.IndexOutside (pos 0) w)) state.old state.new result }
     ensures keeps { Keeps state.old state.new result }
     ensures room { vec_capacity state.new.operands ≡ vec_capacity state.old.operands }
 {
@@ -122,7 +130,10 @@ pub fn index_open(state: &mut State, a: i32) -> Step
         return Step::Unable;
     };
     if !is_within(i, l) {
-        return Step::Traps { kind: 1, number: 0 };
+        return Step::Traps {
+            kind: Trap::IndexOutside,
+            number: 0,
+        };
     }
     push_word(state, element_at(x, i, a))
 }
@@ -173,7 +184,7 @@ pub fn mul(state: &mut State, bytes: i32) -> Step
 pub fn div(state: &mut State) -> Step
     requires room { 257 ≤ vec_capacity state.old.operands }
     requires few { vec_len state.old.operands ≤ 256 }
-    ensures does { Does (λ ops w. on_two ops (λ x y rest. if int_lt (pos 0) y then Next (int_div_euclid x y ∷ rest) w else Traps 7 (pos 0) w)) state.old state.new result }
+    ensures does { Does (λ ops w. on_two ops (λ x y rest. if int_lt (pos 0) y then Next (int_div_euclid x y ∷ rest) w else Traps trap.NoDivisor (pos 0) w)) state.old state.new result }
     ensures keeps { Keeps state.old state.new result }
     ensures room { vec_capacity state.new.operands ≡ vec_capacity state.old.operands }
 {
@@ -181,7 +192,10 @@ pub fn div(state: &mut State) -> Step
         return Step::Unable;
     };
     if y <= 0 {
-        return Step::Traps { kind: 7, number: 0 };
+        return Step::Traps {
+            kind: Trap::NoDivisor,
+            number: 0,
+        };
     }
     push(state, x.div_euclid(y))
 }
@@ -190,7 +204,7 @@ pub fn div(state: &mut State) -> Step
 pub fn modulo(state: &mut State) -> Step
     requires room { 257 ≤ vec_capacity state.old.operands }
     requires few { vec_len state.old.operands ≤ 256 }
-    ensures does { Does (λ ops w. on_two ops (λ x y rest. if int_lt (pos 0) y then Next (int_rem_euclid x y ∷ rest) w else Traps 7 (pos 0) w)) state.old state.new result }
+    ensures does { Does (λ ops w. on_two ops (λ x y rest. if int_lt (pos 0) y then Next (int_rem_euclid x y ∷ rest) w else Traps trap.NoDivisor (pos 0) w)) state.old state.new result }
     ensures keeps { Keeps state.old state.new result }
     ensures room { vec_capacity state.new.operands ≡ vec_capacity state.old.operands }
 {
@@ -198,7 +212,10 @@ pub fn modulo(state: &mut State) -> Step
         return Step::Unable;
     };
     if y <= 0 {
-        return Step::Traps { kind: 7, number: 0 };
+        return Step::Traps {
+            kind: Trap::NoDivisor,
+            number: 0,
+        };
     }
     push(state, x.rem_euclid(y))
 }
@@ -277,7 +294,7 @@ pub fn range(state: &mut State, bytes: i32) -> Step
 pub fn character(state: &mut State) -> Step
     requires room { 257 ≤ vec_capacity state.old.operands }
     requires few { vec_len state.old.operands ≤ 256 }
-    ensures does { Does (λ ops w. on_one ops (λ v rest. if is_within v (pos 256) then Next (v ∷ rest) w else Traps 8 (pos 0) w)) state.old state.new result }
+    ensures does { Does (λ ops w. on_one ops (λ v rest. if is_within v (pos 256) then Next (v ∷ rest) w else Traps trap.Overflow (pos 0) w)) state.old state.new result }
     ensures keeps { Keeps state.old state.new result }
     ensures room { vec_capacity state.new.operands ≡ vec_capacity state.old.operands }
 {
@@ -285,7 +302,10 @@ pub fn character(state: &mut State) -> Step
         return Step::Unable;
     };
     if !is_within(v, 256) {
-        return Step::Traps { kind: 8, number: 0 };
+        return Step::Traps {
+            kind: Trap::Overflow,
+            number: 0,
+        };
     }
     push(state, v)
 }

@@ -1,10 +1,13 @@
 //! Jumps and traps.
 
 ghost use Rattle.std.specs.Prelude.{◌≡◌, ◌≤◌, ◌∷◌, pos, vec_len, vec_capacity, if◌then◌else◌};
-ghost use Rattle.ob_instr.specs.Rows.{Next, Traps, on_one, on_found, below, up_to, is_zero, jumped};
+ghost use Rattle.ob_instr.specs.Rows.{Next, Traps, on_one, on_found, below, is_zero, jumped};
 ghost use Rattle.ob_machine_operands.specs.Effects.{Does, Keeps, Moves};
+ghost use Rattle.ob_trap.specs.declared.trap.Trap.TheVariants as trap;
+ghost use Rattle.ob_trap.specs.Numbers.{trap_of};
 
 use ob_machine_operands::{State, Step, take};
+use ob_trap::Trap;
 
 /// A number from 0 up to a bound.
 pub fn below(bound: usize, number: i32) -> Option<u32>
@@ -16,17 +19,6 @@ pub fn below(bound: usize, number: i32) -> Option<u32>
     let number = number as u32;
     if (number as usize) < bound {
         Some(number)
-    } else {
-        None
-    }
-}
-
-// A number from 1 up to and with 16.
-fn trap_kind(number: i32) -> Option<u8>
-    ensures { result ≡ up_to 16 number }
-{
-    if 1 <= number && number <= 16 {
-        Some(number as u8)
     } else {
         None
     }
@@ -75,18 +67,18 @@ pub fn jump_at_false(state: &mut State, pc: u32, len: usize, a: i32) -> Step
 }
 
 pub fn trap(state: &mut State, a: i32, b: i32) -> Step
-    ensures does { Does (λ ops w. on_found (up_to 16 a) (λ kind. Traps kind b w)) state.old state.new result }
+    ensures does { Does (λ ops w. on_found (trap_of a) (λ kind. Traps kind b w)) state.old state.new result }
     ensures keeps { Keeps state.old state.new result }
     ensures room { vec_capacity state.new.operands ≡ vec_capacity state.old.operands }
 {
-    match trap_kind(a) {
+    match Trap::of_number(a) {
         Some(kind) => Step::Traps { kind, number: b },
         None => Step::Unable,
     }
 }
 
 pub fn assert_true(state: &mut State, a: i32) -> Step
-    ensures does { Does (λ ops w. on_one ops (λ v rest. if is_zero v then Traps 10 a w else Next rest w)) state.old state.new result }
+    ensures does { Does (λ ops w. on_one ops (λ v rest. if is_zero v then Traps trap.AssertionFails a w else Next rest w)) state.old state.new result }
     ensures keeps { Keeps state.old state.new result }
     ensures room { vec_capacity state.new.operands ≡ vec_capacity state.old.operands }
 {
@@ -95,7 +87,7 @@ pub fn assert_true(state: &mut State, a: i32) -> Step
     };
     if word == 0 {
         return Step::Traps {
-            kind: 10,
+            kind: Trap::AssertionFails,
             number: a,
         };
     }

@@ -5,11 +5,13 @@ ghost use Rattle.std.specs.Prelude.{◌≡◌, ◌≤◌, ◌∷◌, ◌+ℤ◌,
 ghost use Rattle.ob_mem.specs.Words.{word_at, stored, copied};
 ghost use Rattle.ob_instr.specs.Rows.{Next, Traps, on_one, on_two, on_found, on_count, on_width, in_width, is_zero, with_memory, on_element, set_from};
 ghost use Rattle.ob_machine_operands.specs.Effects.{Does, Keeps};
+ghost use Rattle.ob_trap.specs.declared.trap.Trap.TheVariants as trap;
 
 use ob_machine_operands::{
     Fit, State, Step, difference, element, fitted, push, put, sum, take, take_two, with_element,
     without_element,
 };
+use ob_trap::Trap;
 
 /// Puts a word at an address.
 pub fn store_word(state: &mut State, at: i32, word: i32) -> Step
@@ -79,7 +81,7 @@ pub fn copy(state: &mut State, a: i32) -> Step
 pub fn deref(state: &mut State) -> Step
     requires room { 257 ≤ vec_capacity state.old.operands }
     requires few { vec_len state.old.operands ≤ 256 }
-    ensures does { Does (λ ops w. on_one ops (λ x rest. if is_zero x then Traps 2 (pos 0) w else Next (x ∷ rest) w)) state.old state.new result }
+    ensures does { Does (λ ops w. on_one ops (λ x rest. if is_zero x then Traps trap.Nil (pos 0) w else Next (x ∷ rest) w)) state.old state.new result }
     ensures keeps { Keeps state.old state.new result }
     ensures room { vec_capacity state.new.operands ≡ vec_capacity state.old.operands }
 {
@@ -87,7 +89,10 @@ pub fn deref(state: &mut State) -> Step
         return Step::Unable;
     };
     if x == 0 {
-        return Step::Traps { kind: 2, number: 0 };
+        return Step::Traps {
+            kind: Trap::Nil,
+            number: 0,
+        };
     }
     push(state, x)
 }
@@ -95,7 +100,7 @@ pub fn deref(state: &mut State) -> Step
 pub fn tagged(state: &mut State) -> Step
     requires room { 257 ≤ vec_capacity state.old.operands }
     requires few { vec_len state.old.operands ≤ 256 }
-    ensures does { Does (λ ops w. on_one ops (λ x rest. if is_zero x then Traps 2 (pos 0) w else on_found (word_at w.words (x -ℤ pos 1)) (λ g. Next (g ∷ x ∷ rest) w))) state.old state.new result }
+    ensures does { Does (λ ops w. on_one ops (λ x rest. if is_zero x then Traps trap.Nil (pos 0) w else on_found (word_at w.words (x -ℤ pos 1)) (λ g. Next (g ∷ x ∷ rest) w))) state.old state.new result }
     ensures keeps { Keeps state.old state.new result }
     ensures room { vec_capacity state.new.operands ≡ vec_capacity state.old.operands }
 {
@@ -103,7 +108,10 @@ pub fn tagged(state: &mut State) -> Step
         return Step::Unable;
     };
     if x == 0 {
-        return Step::Traps { kind: 2, number: 0 };
+        return Step::Traps {
+            kind: Trap::Nil,
+            number: 0,
+        };
     }
     let Some(word) = state.words.load(i64::from(x) - 1) else {
         return Step::Unable;
@@ -113,19 +121,22 @@ pub fn tagged(state: &mut State) -> Step
 }
 
 fn store_in_type(state: &mut State, bytes: i32, at: i32, number: i64) -> Step
-    ensures does { Does (λ ops w. on_width bytes (λ n. if in_width n number then on_found (stored w.words at number) (λ l. Next ops (with_memory w l)) else Traps 8 (pos 0) w)) state.old state.new result }
+    ensures does { Does (λ ops w. on_width bytes (λ n. if in_width n number then on_found (stored w.words at number) (λ l. Next ops (with_memory w l)) else Traps trap.Overflow (pos 0) w)) state.old state.new result }
     ensures keeps { Keeps state.old state.new result }
     ensures room { vec_capacity state.new.operands ≡ vec_capacity state.old.operands }
 {
     match fitted(bytes, number) {
         Fit::Without => Step::Unable,
-        Fit::Outside => Step::Traps { kind: 8, number: 0 },
+        Fit::Outside => Step::Traps {
+            kind: Trap::Overflow,
+            number: 0,
+        },
         Fit::Inside(word) => store_word(state, at, word),
     }
 }
 
 pub fn inc(state: &mut State, bytes: i32) -> Step
-    ensures does { Does (λ ops w. on_width bytes (λ n. on_two ops (λ x d rest. on_found (word_at w.words x) (λ v. if in_width n (v +ℤ d) then on_found (stored w.words x (v +ℤ d)) (λ l. Next rest (with_memory w l)) else Traps 8 (pos 0) w)))) state.old state.new result }
+    ensures does { Does (λ ops w. on_width bytes (λ n. on_two ops (λ x d rest. on_found (word_at w.words x) (λ v. if in_width n (v +ℤ d) then on_found (stored w.words x (v +ℤ d)) (λ l. Next rest (with_memory w l)) else Traps trap.Overflow (pos 0) w)))) state.old state.new result }
     ensures keeps { Keeps state.old state.new result }
     ensures room { vec_capacity state.new.operands ≡ vec_capacity state.old.operands }
 {
@@ -139,7 +150,7 @@ pub fn inc(state: &mut State, bytes: i32) -> Step
 }
 
 pub fn dec(state: &mut State, bytes: i32) -> Step
-    ensures does { Does (λ ops w. on_width bytes (λ n. on_two ops (λ x d rest. on_found (word_at w.words x) (λ v. if in_width n (v -ℤ d) then on_found (stored w.words x (v -ℤ d)) (λ l. Next rest (with_memory w l)) else Traps 8 (pos 0) w)))) state.old state.new result }
+    ensures does { Does (λ ops w. on_width bytes (λ n. on_two ops (λ x d rest. on_found (word_at w.words x) (λ v. if in_width n (v -ℤ d) then on_found (stored w.words x (v -ℤ d)) (λ l. Next rest (with_memory w l)) else Traps trap.Overflow (pos 0) w)))) state.old state.new result }
     ensures keeps { Keeps state.old state.new result }
     ensures room { vec_capacity state.new.operands ≡ vec_capacity state.old.operands }
 {
@@ -164,7 +175,10 @@ pub fn include(state: &mut State) -> Step
         return Step::Unable;
     };
     let Some(i) = element(v) else {
-        return Step::Traps { kind: 9, number: 0 };
+        return Step::Traps {
+            kind: Trap::NoElement,
+            number: 0,
+        };
     };
     store_word(state, x, with_element(set, i))
 }
@@ -181,7 +195,10 @@ pub fn exclude(state: &mut State) -> Step
         return Step::Unable;
     };
     let Some(i) = element(v) else {
-        return Step::Traps { kind: 9, number: 0 };
+        return Step::Traps {
+            kind: Trap::NoElement,
+            number: 0,
+        };
     };
     store_word(state, x, without_element(set, i))
 }

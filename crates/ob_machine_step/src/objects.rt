@@ -8,6 +8,7 @@ ghost use Rattle.ob_machine_operands.specs.Effects.{Does, Keeps};
 use crate::types::item_of;
 use ob_machine_operands::{State, Step, take, take_two};
 use ob_tdesc::Descriptors;
+use ob_trap::Trap;
 
 #[tactic(auto, using(crate::proofs::Made::made_there))]
 fn make(state: &mut State, at: i32, extra: &[i32], count: u64) -> Step
@@ -23,7 +24,7 @@ fn make(state: &mut State, at: i32, extra: &[i32], count: u64) -> Step
     let total = extra.len() as u64 + count;
     if total > (len + 1 - first) as u64 {
         return Step::Traps {
-            kind: 12,
+            kind: Trap::HeapFull,
             number: 0,
         };
     }
@@ -97,7 +98,7 @@ pub fn make_open_array(state: &mut State, a: i32) -> Step
     }
     if l < 1 {
         return Step::Traps {
-            kind: 16,
+            kind: Trap::NoLength,
             number: 0,
         };
     }

@@ -6,6 +6,7 @@ ghost use Rattle.ob_instr.specs.Rows.{on_two, in_type, in_width, shifted};
 ghost use Rattle.ob_machine_operands.specs.Effects.{Does, Keeps};
 
 use ob_machine_operands::{State, Step, power, push, take_two, word_of};
+use ob_trap::Trap;
 
 // A word times a power of 2 below 2 to the 32.
 #[tactic(auto, using(crate::proofs::Powers::scaled_fits))]
@@ -64,6 +65,9 @@ pub fn ash(state: &mut State) -> Step
     };
     match shift(x, n) {
         Some(value) => push(state, value),
-        None => Step::Traps { kind: 8, number: 0 },
+        None => Step::Traps {
+            kind: Trap::Overflow,
+            number: 0,
+        },
     }
 }

@@ -8,6 +8,7 @@ ghost use Rattle.ob_machine_step.specs.Texts.{TextIs, TextIsFrom, IsOrder, text}
 use crate::jumps::below;
 use ob_machine_operands::{State, Step, push, take_four};
 use ob_mem::Memory;
+use ob_trap::Trap;
 use std::cmp::Ordering;
 
 /// How the text of a character array ends.
@@ -126,7 +127,7 @@ pub fn relate(state: &mut State, a: i32) -> Step
     match (first, second) {
         (Ending::Missing, _) | (_, Ending::Missing) => Step::Unable,
         (Ending::Endless, _) | (_, Ending::Endless) => Step::Traps {
-            kind: 15,
+            kind: Trap::NoEnd,
             number: 0,
         },
         (Ending::After { start: a, count: k }, Ending::After { start: b, count: m }) => {
@@ -165,7 +166,7 @@ pub fn copy_text(state: &mut State) -> Step
     match text_ending(&state.words, x, l) {
         Ending::Missing => Step::Unable,
         Ending::Endless => Step::Traps {
-            kind: 15,
+            kind: Trap::NoEnd,
             number: 0,
         },
         Ending::After { start, count } => place_text(state, y, start, count.min(n as u32 - 1)),

@@ -6,11 +6,13 @@ ghost use Rattle.ob_tdesc.specs.Bases.{is_or_has_base};
 ghost use Rattle.ob_instr.specs.Rows.{Next, Traps, on_one, on_found, below, item, word, tag, tag_passes, pointer_passes, truth, proc_value};
 ghost use Rattle.ob_machine_operands.specs.Effects.{Does, Keeps};
 ghost use Rattle.ob_machine_step.specs.Bases.{AreBelow};
+ghost use Rattle.ob_trap.specs.declared.trap.Trap.TheVariants as trap;
 
 use crate::jumps::below;
 use ob_machine_operands::{State, Step, push, push_word, take};
 use ob_mem::Memory;
 use ob_tdesc::{Descriptors, Steps};
+use ob_trap::Trap;
 use ob_tree::ProcRef;
 use std::marker::Brand;
 use std::sync::ledger::{Blank, Ledger};
@@ -232,7 +234,7 @@ pub fn guard_at(
     requires few { vec_len state.old.operands ≤ 256 }
     requires count { count ≡ length descriptors.now.list }
     requires bases { AreBelow descriptors.now.list }
-    ensures does { Does (λ ops w. on_found (item types.now a) (λ t. on_one ops (λ x rest. on_found (word_at w.words x) (λ v. on_found (pointer_passes descriptors.now.list w.words v t) (λ yes. if yes then Next (x ∷ rest) w else Traps 3 (pos 0) w))))) state.old state.new result }
+    ensures does { Does (λ ops w. on_found (item types.now a) (λ t. on_one ops (λ x rest. on_found (word_at w.words x) (λ v. on_found (pointer_passes descriptors.now.list w.words v t) (λ yes. if yes then Next (x ∷ rest) w else Traps trap.GuardFails (pos 0) w))))) state.old state.new result }
     ensures keeps { Keeps state.old state.new result }
     ensures room { vec_capacity state.new.operands ≡ vec_capacity state.old.operands }
 {
@@ -249,7 +251,10 @@ pub fn guard_at(
         return Step::Unable;
     };
     if !passes {
-        return Step::Traps { kind: 3, number: 0 };
+        return Step::Traps {
+            kind: Trap::GuardFails,
+            number: 0,
+        };
     }
     push(state, x)
 }
@@ -265,7 +270,7 @@ pub fn guard_record(
     requires few { vec_len state.old.operands ≤ 256 }
     requires count { count ≡ length descriptors.now.list }
     requires bases { AreBelow descriptors.now.list }
-    ensures does { Does (λ ops w. on_found (item types.now a) (λ t. on_one ops (λ g rest. on_found (tag_passes descriptors.now.list g t) (λ yes. if yes then Next (g ∷ rest) w else Traps 3 (pos 0) w)))) state.old state.new result }
+    ensures does { Does (λ ops w. on_found (item types.now a) (λ t. on_one ops (λ g rest. on_found (tag_passes descriptors.now.list g t) (λ yes. if yes then Next (g ∷ rest) w else Traps trap.GuardFails (pos 0) w)))) state.old state.new result }
     ensures keeps { Keeps state.old state.new result }
     ensures room { vec_capacity state.new.operands ≡ vec_capacity state.old.operands }
 {
@@ -279,7 +284,10 @@ pub fn guard_record(
         return Step::Unable;
     };
     if !passes {
-        return Step::Traps { kind: 3, number: 0 };
+        return Step::Traps {
+            kind: Trap::GuardFails,
+            number: 0,
+        };
     }
     push(state, tag)
 }

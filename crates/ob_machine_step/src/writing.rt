@@ -6,6 +6,7 @@ ghost use Rattle.ob_machine_operands.specs.Effects.{Does, Moves};
 
 use crate::texts::{Ending, text_ending};
 use ob_machine_operands::{State, Step, take, take_two};
+use ob_trap::Trap;
 
 fn write_char(state: &mut State) -> Step
     ensures does { Does (λ ops w. on_one ops (λ c rest. on_turn w (λ v. Next rest (printed v (low_byte c ∷ []))))) state.old state.new result }
@@ -41,7 +42,7 @@ fn write_text(state: &mut State) -> Step
     match text {
         Ending::After { start, count } => Step::Text { start, count },
         _ => Step::Traps {
-            kind: 15,
+            kind: Trap::NoEnd,
             number: 0,
         },
     }

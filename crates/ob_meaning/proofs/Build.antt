@@ -1,5 +1,6 @@
 -- Short words for small programs, for the worked programs beside this.
 use Rattle.std.specs.Prelude.{ℕ, List, [], ◌∷◌, ℤ, pos, Option, Some, None}
+use Rattle.ob_trap.specs.declared.trap.Trap.{Trap}
 use Rattle.ob_tree.specs.declared.pos.Pos.{Pos}
 use Rattle.ob_tree.specs.declared.names.QName.{QName}
 use Rattle.ob_tree.specs.declared.ident.Mark.TheVariants as mark
@@ -219,13 +220,13 @@ outcome e = (e.why, e.out)
 abbrev pub ends : List ℕ → Option Why × List ℕ
 ends s = (None, s)
 
-abbrev pub traps : ℕ → List ℕ → Pos → List ℕ → Option Why × List ℕ
+abbrev pub traps : Trap → List ℕ → Pos → List ℕ → Option Why × List ℕ
 traps kind m p s = (Some (Trapped kind (pos 0) m p), s)
 
 abbrev pub spent : List ℕ → Pos → List ℕ → Option Why × List ℕ
 spent m p s = (Some (Spent m p), s)
 
-abbrev pub traps_with : ℕ → ℤ → List ℕ → Pos → List ℕ → Option Why × List ℕ
+abbrev pub traps_with : Trap → ℤ → List ℕ → Pos → List ℕ → Option Why × List ℕ
 traps_with kind number m p s = (Some (Trapped kind number m p), s)
 
 -- several modules are loaded, and a command of the last is run

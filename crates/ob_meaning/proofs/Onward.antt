@@ -1,6 +1,7 @@
 -- Every part of a program goes on: turns never rise, output only grows, and calls end.
 use Rattle.std.proofs.Common.{◌≡◌, ℕ, zero, suc, List, [], ◌∷◌, ◌++◌, refl, sym, ◌∙◌, ap, append_assoc, append-nil, Bool, true, false, Option, Some, None, arith}
 use Rattle.std.specs.Prelude.{ℤ, pos, negsuc, nat_lt, nat_le, unsigned_abs}
+use Rattle.ob_trap.specs.declared.trap.Trap.TheVariants as trap
 use Rattle.ob_tree.specs.declared.pos.Pos.{Pos}
 use Rattle.ob_tree.specs.declared.names.QName.{QName}
 use Rattle.ob_types.specs.declared.types.TypeRef.{TypeRef}
@@ -115,10 +116,10 @@ pub keep_indexed : (n : Option ℕ) (p : Place) (i : ℤ) (u : Around) (at : Pos
 keep_indexed n p i u at = record { at = λ s. (keep_element_place (meaning.array_length n s.store p) p i u at).at s }
 
 pub keep_guarded : (g : Guarded) (target : QName) (p : Place) (u : Around) (at : Pos) → Keeps (meaning.guarded_place g target p u at)
-keep_guarded g target p u at = record { at = λ s. (keep_choose (meaning.is_extension u.program (meaning.dynamic_type g s.store p) target) (keep_give p) (keep_stop (Trapped 3 (pos 0) u.unit at))).at s }
+keep_guarded g target p u at = record { at = λ s. (keep_choose (meaning.is_extension u.program (meaning.dynamic_type g s.store p) target) (keep_give p) (keep_stop (Trapped trap.GuardFails (pos 0) u.unit at))).at s }
 
 pub keep_text : (x : Source) (u : Around) (at : Pos) → Keeps (meaning.text_of x u at)
-keep_text x u at = record { at = λ s. (keep_give_or (meaning.text_in x s.store) (keep_stop (Trapped 15 (pos 0) u.unit at))).at s }
+keep_text x u at = record { at = λ s. (keep_give_or (meaning.text_in x s.store) (keep_stop (Trapped trap.NoEnd (pos 0) u.unit at))).at s }
 
 pub keep_pass : (how : Passing) {m : M Value} {where_ : M Source} → Keeps m → Keeps where_ → Keeps (meaning.pass how m where_)
 keep_pass passing.Scalar h g = keep_bind h (λ v. keep_give _)
@@ -205,7 +206,7 @@ pub keep_assigned : (how : Assigned) (p : Place) {m : M Value} {where_ : M Sourc
 keep_assigned assigned.Scalar p u at h g = keep_bind h (λ v. keep_assign p v)
 keep_assigned assigned.Text p u at h g = keep_bind g (λ x. keep_bind (keep_read p) (λ v. keep_assign p (operators.with_text (meaning.source_text x) (values.length_of v) (values.element_of v))))
 keep_assigned assigned.Array p u at h g = keep_bind g (λ x. record { at = λ s. (keep_assign p _).at s })
-keep_assigned (assigned.Record q) p u at h g = keep_bind g (λ x. record { at = λ s. (keep_choose (meaning.is_exactly (values.type_of (values.value_at s.store p)) q) (keep_assign p (meaning.as_record u.program q (meaning.source_value x s.store))) (keep_stop (Trapped 14 (pos 0) u.unit at))).at s })
+keep_assigned (assigned.Record q) p u at h g = keep_bind g (λ x. record { at = λ s. (keep_choose (meaning.is_exactly (values.type_of (values.value_at s.store p)) q) (keep_assign p (meaning.as_record u.program q (meaning.source_value x s.store))) (keep_stop (Trapped trap.OtherType (pos 0) u.unit at))).at s })
 
 pub keep_copy : (x : Source) (p : Place) (u : Around) (at : Pos) → Keeps (meaning.copy_text x p u at)
 keep_copy x p u at = keep_bind (keep_text x u at) (λ text. keep_bind (keep_read p) (λ v. keep_assign p (operators.with_text (meaning.shortened (values.length_of v) text) (values.length_of v) (values.element_of v))))
@@ -214,10 +215,10 @@ pub keep_object : (x : AnObject) (p : Place) → Keeps (meaning.with_object x p)
 keep_object x p = record { at = λ s. (same_out s _ refl refl, refl) }
 
 pub keep_make : (x : AnObject) (p : Place) (u : Around) (at : Pos) → Keeps (meaning.make x p u at)
-keep_make x p u at = record { at = λ s. (keep_choose (nat_le (meaning.costs_of (x ∷ s.made)) u.heap) (keep_object x p) (keep_stop (Trapped 12 (pos 0) u.unit at))).at s }
+keep_make x p u at = record { at = λ s. (keep_choose (nat_le (meaning.costs_of (x ∷ s.made)) u.heap) (keep_object x p) (keep_stop (Trapped trap.HeapFull (pos 0) u.unit at))).at s }
 
 pub keep_make_open : (n : ℤ) (t : TypeRef) (p : Place) (u : Around) (at : Pos) → Keeps (meaning.make_open n t p u at)
-keep_make_open n t p u at = keep_choose (numbers.is_positive n) (keep_make (values.Opened (unsigned_abs n) (values.form_in u.program t)) p u at) (keep_stop (Trapped 16 (pos 0) u.unit at))
+keep_make_open n t p u at = keep_choose (numbers.is_positive n) (keep_make (values.Opened (unsigned_abs n) (values.form_in u.program t)) p u at) (keep_stop (Trapped trap.NoLength (pos 0) u.unit at))
 
 pub keep_done : {m : M (Unit {0})} → Keeps m → Keeps (meaning.done m)
 keep_done h = keep_bind h (λ x. keep_give Done)
@@ -268,7 +269,7 @@ module _ (u : Around) (c : CallsKeep u) where
     keep_exec (Assert e number at) = keep_bind (keep_value u c e) (λ v. keep_choose _ (keep_give _) (keep_stop _))
     keep_exec (Halt number at) = keep_stop _
     keep_exec (If branches otherwise) = keep_branches branches (keep_execs otherwise)
-    keep_exec (Case e cases otherwise at) = keep_bind (keep_value u c e) (λ v. keep_bind (keep_keep at (Integer (values.integer_of v))) (λ x. keep_cases cases (values.integer_of v) (keep_else otherwise (keep_stop (Trapped 4 (pos 0) u.unit at)))))
+    keep_exec (Case e cases otherwise at) = keep_bind (keep_value u c e) (λ v. keep_bind (keep_keep at (Integer (values.integer_of v))) (λ x. keep_cases cases (values.integer_of v) (keep_else otherwise (keep_stop (Trapped trap.NoCase (pos 0) u.unit at)))))
     keep_exec (While e body at) = keep_loop u.bound u.unit at (keep_bind (keep_value u c e) (λ v. keep_choose _ (keep_bind (keep_execs body) (λ f. keep_after f (keep_give Again))) (keep_give _)))
     keep_exec (Repeat body e at) = keep_loop u.bound u.unit at (keep_bind (keep_execs body) (λ f. keep_after f (keep_bind (keep_value u c e) (λ v. keep_choose _ (keep_give _) (keep_give _)))))
     keep_exec (For v w start end step body at) =

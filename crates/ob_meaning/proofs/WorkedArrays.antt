@@ -2,6 +2,7 @@
 use Rattle.std.proofs.Common.{◌≡◌, refl}
 use Rattle.std.specs.Prelude.{ℕ, List, [], ◌∷◌, Option, Some, None, codes}
 use Rattle.std.specs.Fmt.{digits}
+use Rattle.ob_trap.specs.declared.trap.Trap.TheVariants as trap
 use Rattle.ob_tree.specs.declared.pos.Pos.{Pos}
 use Rattle.ob_types.specs.declared.types.TypeRef.{TypeRef}
 use Rattle.ob_types.specs.declared.types.TypeRef.TheVariants as ref
@@ -109,11 +110,11 @@ abbrev go : List ℕ → Option Why × List ℕ
 go t = outcome (run ar 100 t)
 
 -- the trap of a further index stands at its comma
-second_index : go (codes "Two") ≡ traps 1 m (at 3 4) (codes "60")
+second_index : go (codes "Two") ≡ traps trap.IndexOutside m (at 3 4) (codes "60")
 unfolding digits
 second_index = refl
 
-first_index : go (codes "First") ≡ traps 1 m (at 3 2) []
+first_index : go (codes "First") ≡ traps trap.IndexOutside m (at 3 2) []
 first_index = refl
 
 -- an array's assignment copies it
@@ -122,14 +123,14 @@ unfolding digits
 copied = refl
 
 -- an open array by VAR is the variable that is passed, with its length
-by_var : go (codes "ByVar") ≡ traps 1 m (at 4 4) (codes "397")
+by_var : go (codes "ByVar") ≡ traps trap.IndexOutside m (at 4 4) (codes "397")
 unfolding digits
 by_var = refl
 
-made_array : go (codes "Made") ≡ traps 2 m (at 5 1) (codes "8038")
+made_array : go (codes "Made") ≡ traps trap.Nil m (at 5 1) (codes "8038")
 unfolding digits
 made_array = refl
 
 -- a super call does not test its receiver; a bound call does
-super_of_nil : go (codes "Super") ≡ traps 2 m (at 6 6) (codes "r0")
+super_of_nil : go (codes "Super") ≡ traps trap.Nil m (at 6 6) (codes "r0")
 super_of_nil = refl

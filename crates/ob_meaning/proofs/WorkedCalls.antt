@@ -2,6 +2,7 @@
 use Rattle.std.proofs.Common.{◌≡◌, refl}
 use Rattle.std.specs.Prelude.{ℕ, List, [], ◌∷◌, ◌++◌, Option, Some, None, true, false, codes, replicate, length}
 use Rattle.std.specs.Fmt.{digits}
+use Rattle.ob_trap.specs.declared.trap.Trap.TheVariants as trap
 use Rattle.ob_tree.specs.declared.names.QName.{QName}
 use Rattle.ob_types.specs.declared.types.TypeRef.{TypeRef}
 use Rattle.ob_types.specs.declared.types.TypeRef.TheVariants as ref
@@ -87,11 +88,11 @@ unfolding digits
 factorial = refl
 
 -- 13! is no LONGINT
-large_factorial : go (codes "Fac13") ≡ traps 8 m (at 2 2) []
+large_factorial : go (codes "Fac13") ≡ traps trap.Overflow m (at 2 2) []
 large_factorial = refl
 
 -- three activations of 300,000 words fit, a fourth does not
-too_deep : go (codes "Deep") ≡ traps 13 m (at 4 4) (codes "ddd")
+too_deep : go (codes "Deep") ≡ traps trap.StackFull m (at 4 4) (codes "ddd")
 too_deep = refl
 
 -- 4,096 calls are active at most
@@ -147,7 +148,7 @@ once = command nothing_loaded (heap ∷ []) 9 10 (named h (codes "Go"))
 last_words : outcome (again (again once)) ≡ ends []
 last_words = refl
 
-heap_full : outcome (again (again (again once))) ≡ traps 12 h (at 3 22) []
+heap_full : outcome (again (again (again once))) ≡ traps trap.HeapFull h (at 3 22) []
 heap_full = refl
 
 -- BOUND PROCEDURES: Base has Draw and a hidden hid; N extends Base.R, redefines Draw, and has a hid of its own
@@ -205,7 +206,7 @@ newer_draws : outcome (run_all (base ∷ viewer ∷ newer ∷ []) (named (codes 
 newer_draws = refl
 
 -- a receiver that is NIL
-nil_receiver : outcome (run_all (base ∷ viewer ∷ []) (named (codes "V") (codes "Nil")) 100) ≡ traps 2 (codes "V") (at 8 8) []
+nil_receiver : outcome (run_all (base ∷ viewer ∷ []) (named (codes "V") (codes "Nil")) 100) ≡ traps trap.Nil (codes "V") (at 8 8) []
 nil_receiver = refl
 
 -- THREE LEVELS of records by VAR; the middle one has no declaration of its own; the last one's calls the base's

@@ -2,6 +2,7 @@
 use Rattle.std.proofs.Common.{◌≡◌, refl}
 use Rattle.std.specs.Prelude.{ℕ, List, [], ◌∷◌, Option, Some, None, true, codes}
 use Rattle.std.specs.Fmt.{digits}
+use Rattle.ob_trap.specs.declared.trap.Trap.TheVariants as trap
 use Rattle.ob_types.specs.declared.types.TypeRef.{TypeRef}
 use Rattle.ob_types.specs.declared.types.TypeRef.TheVariants as ref
 use Rattle.ob_types.specs.declared.value.Value.TheVariants as literal
@@ -98,10 +99,10 @@ unfolding digits
 assign = refl
 
 -- an index and a NIL before := trap before the value is computed
-before : go (codes "Before") ≡ traps 1 m (at 1 1) []
+before : go (codes "Before") ≡ traps trap.IndexOutside m (at 1 1) []
 before = refl
 
-nil_before : go (codes "Nil") ≡ traps 2 m (at 1 2) []
+nil_before : go (codes "Nil") ≡ traps trap.Nil m (at 1 2) []
 nil_before = refl
 
 -- the value of a procedure variable is taken before the actual parameters change it
@@ -109,7 +110,7 @@ taken : go (codes "Taken") ≡ ends (codes "pq")
 taken = refl
 
 -- and its NIL is found behind the actual parameters
-nil_late : go (codes "NilLate") ≡ traps 2 m (at 1 3) (codes "n")
+nil_late : go (codes "NilLate") ≡ traps trap.Nil m (at 1 3) (codes "n")
 nil_late = refl
 
 -- INC(i, F()), where F sets i to 10 and gives 5

@@ -2,6 +2,7 @@
 use Rattle.std.proofs.Common.{◌≡◌, refl}
 use Rattle.std.specs.Prelude.{ℕ, List, [], ◌∷◌, ◌++◌, pos, Some, None, codes}
 use Rattle.std.specs.Fmt.{digits}
+use Rattle.ob_trap.specs.declared.trap.Trap.TheVariants as trap
 use Rattle.ob_types.specs.declared.types.TypeRef.{TypeRef}
 use Rattle.ob_types.specs.declared.types.TypeRef.TheVariants as ref
 use Rattle.ob_types.specs.declared.typed.Width.TheVariants as width
@@ -81,7 +82,7 @@ ws = unit_of w
     ∷ set_to (w_x 33) (num 6) nowhere ∷ [])) NoBranch) NoElse (at 6 3)
     ∷ []) ∷ []) []
 
-w-says : outcome (run ws 10 (codes "Go")) ≡ traps 3 w (at 6 33) []
+w-says : outcome (run ws 10 (codes "Go")) ≡ traps trap.GuardFails w (at 6 33) []
 w-says = refl
 
 -- Rec: a record assignment copies the target's fields alone; to another dynamic type it traps
@@ -119,7 +120,7 @@ recs = unit_of rc
     ∷ call (named rc (codes "Set")) (passed passing.VariableRecord (ValueOf rc_x) NoActual) nowhere
     ∷ []) ∷ []) []
 
-rec-says : outcome (run recs 10 (codes "Go")) ≡ traps 14 rc (at 4 35) (codes "1" ++ 10 ∷ [])
+rec-says : outcome (run recs 10 (codes "Go")) ≡ traps trap.OtherType rc (at 4 35) (codes "1" ++ 10 ∷ [])
 unfolding digits
 rec-says = refl
 
@@ -135,7 +136,7 @@ last = unit_of lm [] (variable_of (codes "i") short ∷ variable_of (codes "n") 
     (proper (codes "Go") (For (variable.Module lm (codes "i")) width.ShortInt (num 0) (num 127) (pos 1) (block (increase lm_n (num 1) nowhere ∷ [])) (at 3 1) ∷ [])
     ∷ proper (codes "Say") (out_int (ValueOf lm_n) 0 nowhere ∷ out_line nowhere ∷ []) ∷ []) []
 
-last-says : outcome (run last 1000 (codes "Go")) ≡ traps 8 lm (at 3 1) []
+last-says : outcome (run last 1000 (codes "Go")) ≡ traps trap.Overflow lm (at 3 1) []
 last-says = refl
 
 last-says-then : outcome (next (run last 1000 (codes "Go")) (named lm (codes "Say")) 10) ≡ ends (codes "128" ++ 10 ∷ [])

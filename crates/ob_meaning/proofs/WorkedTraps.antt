@@ -2,6 +2,7 @@
 use Rattle.std.proofs.Common.{◌≡◌, refl}
 use Rattle.std.specs.Prelude.{ℕ, List, [], ◌∷◌, ℤ, pos, negsuc, Option, Some, None, codes}
 use Rattle.std.specs.Fmt.{digits}
+use Rattle.ob_trap.specs.declared.trap.Trap.TheVariants as trap
 use Rattle.ob_tree.specs.declared.pos.Pos.{Pos}
 use Rattle.ob_types.specs.declared.types.TypeRef.{TypeRef}
 use Rattle.ob_types.specs.declared.types.TypeRef.TheVariants as ref
@@ -90,22 +91,22 @@ tr = unit_of m
 abbrev go : List ℕ → Option Why × List ℕ
 go x = outcome (run tr 100 x)
 
-index : go (codes "Index") ≡ traps 1 m (at 2 7) (codes "b")
+index : go (codes "Index") ≡ traps trap.IndexOutside m (at 2 7) (codes "b")
 index = refl
 
-below : go (codes "Below") ≡ traps 1 m (at 2 8) []
+below : go (codes "Below") ≡ traps trap.IndexOutside m (at 2 8) []
 below = refl
 
-open_index : go (codes "Open") ≡ traps 1 m (at 1 9) []
+open_index : go (codes "Open") ≡ traps trap.IndexOutside m (at 1 9) []
 open_index = refl
 
-nil_pointer : go (codes "Nil") ≡ traps 2 m (at 3 4) []
+nil_pointer : go (codes "Nil") ≡ traps trap.Nil m (at 3 4) []
 nil_pointer = refl
 
-nil_procedure : go (codes "NilCall") ≡ traps 2 m (at 3 9) []
+nil_procedure : go (codes "NilCall") ≡ traps trap.Nil m (at 3 9) []
 nil_procedure = refl
 
-no_case : go (codes "Case") ≡ traps 4 m (at 4 1) []
+no_case : go (codes "Case") ≡ traps trap.NoCase m (at 4 1) []
 no_case = refl
 
 a_case : go (codes "CaseHit") ≡ ends (codes "1")
@@ -116,16 +117,16 @@ else_case : go (codes "CaseElse") ≡ ends (codes "2")
 unfolding digits
 else_case = refl
 
-no_guard : go (codes "With") ≡ traps 5 m (at 5 2) []
+no_guard : go (codes "With") ≡ traps trap.NoMatch m (at 5 2) []
 no_guard = refl
 
-no_return : go (codes "NoReturn") ≡ traps 6 m (at 6 11) (codes "e")
+no_return : go (codes "NoReturn") ≡ traps trap.NoReturn m (at 6 11) (codes "e")
 no_return = refl
 
-divisor : go (codes "Div") ≡ traps 7 m (at 7 3) []
+divisor : go (codes "Div") ≡ traps trap.NoDivisor m (at 7 3) []
 divisor = refl
 
-negative_divisor : go (codes "Mod") ≡ traps 7 m (at 7 4) []
+negative_divisor : go (codes "Mod") ≡ traps trap.NoDivisor m (at 7 4) []
 negative_divisor = refl
 
 -- (-7) DIV 2 = -4 and (-7) MOD 2 = 1
@@ -133,49 +134,49 @@ floor : go (codes "Floor") ≡ ends (codes "-41")
 unfolding digits
 floor = refl
 
-overflow : go (codes "Sum") ≡ traps 8 m (at 8 1) []
+overflow : go (codes "Sum") ≡ traps trap.Overflow m (at 8 1) []
 overflow = refl
 
-lowest : go (codes "Low") ≡ traps 8 m (at 8 2) (codes "-2147483648")
+lowest : go (codes "Low") ≡ traps trap.Overflow m (at 8 2) (codes "-2147483648")
 unfolding digits
 lowest = refl
 
-to_short : go (codes "Short") ≡ traps 8 m (at 8 4) (codes "127")
+to_short : go (codes "Short") ≡ traps trap.Overflow m (at 8 4) (codes "127")
 unfolding digits
 to_short = refl
 
-to_character : go (codes "Chr") ≡ traps 8 m (at 8 5) []
+to_character : go (codes "Chr") ≡ traps trap.Overflow m (at 8 5) []
 to_character = refl
 
 -- (-5) halved and rounded down is -3
-shift : go (codes "Ash") ≡ traps 8 m (at 8 8) (codes "-31073741824")
+shift : go (codes "Ash") ≡ traps trap.Overflow m (at 8 8) (codes "-31073741824")
 unfolding digits
 shift = refl
 
-element_of : go (codes "In") ≡ traps 9 m (at 9 1) []
+element_of : go (codes "In") ≡ traps trap.NoElement m (at 9 1) []
 element_of = refl
 
-include : go (codes "Incl") ≡ traps 9 m (at 9 3) (codes "31")
+include : go (codes "Incl") ≡ traps trap.NoElement m (at 9 3) (codes "31")
 unfolding digits
 include = refl
 
 -- both bounds are tested before the range is found empty
-range : go (codes "Range") ≡ traps 9 m (at 9 4) []
+range : go (codes "Range") ≡ traps trap.NoElement m (at 9 4) []
 range = refl
 
-asserts : go (codes "Assert") ≡ traps_with 10 (pos 7) m (at 10 2) []
+asserts : go (codes "Assert") ≡ traps_with trap.AssertionFails (pos 7) m (at 10 2) []
 asserts = refl
 
-halts : go (codes "Halt") ≡ traps_with 11 (pos 3) m (at 11 1) (codes "h")
+halts : go (codes "Halt") ≡ traps_with trap.Halted (pos 3) m (at 11 1) (codes "h")
 halts = refl
 
 -- COPY cuts; where no 0X is left, nothing is written
-no_end : go (codes "Copy") ≡ traps 15 m (at 15 3) (codes "ab+")
+no_end : go (codes "Copy") ≡ traps trap.NoEnd m (at 15 3) (codes "ab+")
 no_end = refl
 
-no_end_in_relation : go (codes "Relation") ≡ traps 15 m (at 15 5) (codes "<")
+no_end_in_relation : go (codes "Relation") ≡ traps trap.NoEnd m (at 15 5) (codes "<")
 no_end_in_relation = refl
 
-no_length : go (codes "Length") ≡ traps 16 m (at 16 2) (codes "2")
+no_length : go (codes "Length") ≡ traps trap.NoLength m (at 16 2) (codes "2")
 unfolding digits
 no_length = refl

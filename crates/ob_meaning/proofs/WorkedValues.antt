@@ -2,6 +2,7 @@
 use Rattle.std.proofs.Common.{◌≡◌, refl}
 use Rattle.std.specs.Prelude.{ℕ, List, [], ◌∷◌, negsuc, Option, Some, None, codes}
 use Rattle.std.specs.Fmt.{digits}
+use Rattle.ob_trap.specs.declared.trap.Trap.TheVariants as trap
 use Rattle.ob_types.specs.declared.types.TypeRef.{TypeRef}
 use Rattle.ob_types.specs.declared.types.TypeRef.TheVariants as ref
 use Rattle.ob_types.specs.declared.typed.Width.TheVariants as width
@@ -145,7 +146,7 @@ pointers : go (codes "Pointers") ≡ ends (codes "yyy0")
 unfolding digits
 pointers = refl
 
-tests : go (codes "Tests") ≡ traps 3 m (at 9 9) (codes "nyny6")
+tests : go (codes "Tests") ≡ traps trap.GuardFails m (at 9 9) (codes "nyny6")
 unfolding digits
 tests = refl
 
@@ -154,7 +155,7 @@ records : go (codes "Records") ≡ ends (codes "5n4y14")
 unfolding digits
 records = refl
 
-guards : go (codes "Guards") ≡ traps 3 m (at 7 1) (codes "59-")
+guards : go (codes "Guards") ≡ traps trap.GuardFails m (at 7 1) (codes "59-")
 unfolding digits
 guards = refl
 

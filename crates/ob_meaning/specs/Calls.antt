@@ -13,7 +13,7 @@ use Rattle.ob_meaning.specs.Values.{changed, changed_at, Program, procedure_of, 
 use Rattle.ob_meaning.specs.Results.{M, Gives, Trapped, Spent, bind, give, stop, spend, Passed, ByValue, ByPlace, ByText, Caller, Around}
 use Rattle.ob_meaning.specs.Operators.{text_value}
 use Rattle.ob_meaning.specs.Meaning.{Flow, Done, Leaves, Back, hidden, as_record, execs}
-use Rattle.ob_meaning.specs.Traps as traps
+use Rattle.ob_trap.specs.declared.trap.Trap.TheVariants as traps
 
 -- HIDDEN VARIABLES
 
@@ -156,7 +156,7 @@ ended s = record s { calls = without_newest s.calls }
 -- a function that reaches its end without RETURN traps, at its name in its heading
 abbrev pub result_at_end : Option TypeRef → List ℕ → Pos → M (Option Value)
 result_at_end None unit at = λ s. Gives None (ended s)
-result_at_end (Some t) unit at = stop (Trapped traps.no_return (pos 0) unit at)
+result_at_end (Some t) unit at = stop (Trapped traps.NoReturn (pos 0) unit at)
 
 abbrev pub result_of_flow : Flow → Procedure → QName → M (Option Value)
 result_of_flow Done p q = result_at_end p.result q.module p.at
@@ -165,7 +165,7 @@ result_of_flow (Back v) p q = λ s. Gives v (ended s)
 
 abbrev pub if_room : {A : Type 0} → Bool → List ℕ → Pos → M A → M A
 if_room true unit at m = m
-if_room false unit at m = stop (Trapped traps.stack_full (pos 0) unit at)
+if_room false unit at m = stop (Trapped traps.StackFull (pos 0) unit at)
 
 -- a call of the procedure q, declared as p: the room for it, the copies, its body and its result
 abbrev pub invoke : Program → QName → Procedure → M Flow → List Passed → List ℕ → Pos → M (Option Value)

@@ -1,4 +1,3 @@
-pub mod Traps
 pub mod Values
 pub mod Results
 pub mod Operators

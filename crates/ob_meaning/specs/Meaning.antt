@@ -33,7 +33,7 @@ use Rattle.ob_meaning.specs.Values.{same_name, changed_at, Program, Fields, NoFi
 use Rattle.ob_meaning.specs.Results.{M, Gives, Trapped, Spent, ◌>>=◌, give, stop, spend, read, assign, write, Passed, ByValue, ByPlace, ByText, Around, trap}
 use Rattle.ob_types.specs.Numbers.{holds, text_equal, text_less, is_positive}
 use Rattle.ob_meaning.specs.Operators.{Computed, Is, Traps, compute, compute_both, updated, constant_value, up_to_end, characters, with_text, padded}
-use Rattle.ob_meaning.specs.Traps as traps
+use Rattle.ob_trap.specs.declared.trap.Trap.TheVariants as traps
 
 -- VARIABLES
 
@@ -101,12 +101,12 @@ is_exactly (Some q) target = same_name q target
 -- a dereference of NIL traps
 abbrev pub pointee : Value → Around → Pos → M Place
 pointee (Object n) u at = give (At (OfObject n) [])
-pointee v u at = trap traps.nil u at
+pointee v u at = trap traps.Nil u at
 
 -- an index below 0, or not below the length, traps
 abbrev pub element_place : ℕ → Place → ℤ → Around → Pos → M Place
-element_place n p (pos i) u at = choose (nat_lt i n) (give (inside p (ElementStep i))) (trap traps.index_outside u at)
-element_place n p (negsuc i) u at = trap traps.index_outside u at
+element_place n p (pos i) u at = choose (nat_lt i n) (give (inside p (ElementStep i))) (trap traps.IndexOutside u at)
+element_place n p (negsuc i) u at = trap traps.IndexOutside u at
 
 -- the length that the type has, or that the open array has
 abbrev pub array_length : Option ℕ → Store → Place → ℕ
@@ -118,7 +118,7 @@ indexed n p i u at = λ s. element_place (array_length n s.store p) p i u at s
 
 -- a guard whose test is FALSE traps
 abbrev pub guarded_place : Guarded → QName → Place → Around → Pos → M Place
-guarded_place g target p u at = λ s. choose (is_extension u.program (dynamic_type g s.store p) target) (give p) (trap traps.guard_fails u at) s
+guarded_place g target p u at = λ s. choose (is_extension u.program (dynamic_type g s.store p) target) (give p) (trap traps.GuardFails u at) s
 
 -- STRINGS AND ARRAYS
 
@@ -138,7 +138,7 @@ text_in (Text text) g = up_to_end (text ++ 0 ∷ [])
 
 -- a character array without 0X traps
 abbrev pub text_of : Source → Around → Pos → M (List ℕ)
-text_of x u at = λ s. give_or (text_in x s.store) (trap traps.no_end u at) s
+text_of x u at = λ s. give_or (text_in x s.store) (trap traps.NoEnd u at) s
 
 abbrev pub passed_from : Source → Passed
 passed_from (Stands p) = ByPlace p
@@ -198,7 +198,7 @@ call_found (Some q) xs u at = u.call q xs u.unit at
 abbrev pub call_bound : Receiver → Family → List Passed → Around → Pos → M (Option Value)
 call_bound receiver.Record family (ByPlace p ∷ xs) u at = λ s. call_found (nearest u.program (bases_of u.program (type_of (value_at s.store p))) family) (ByPlace p ∷ xs) u at s
 call_bound receiver.Pointer family (ByValue (Object n) ∷ xs) u at = λ s. call_found (nearest u.program (bases_of u.program (type_of (s.store.objects n))) family) (ByValue (Object n) ∷ xs) u at s
-call_bound r family xs u at = trap traps.nil u at
+call_bound r family xs u at = trap traps.Nil u at
 
 abbrev pub out_text : OutProcedure → List Passed → Around → Pos → M (List ℕ)
 out_text out.Char (c ∷ xs) u at = give (character_of (value_from c) ∷ [])
@@ -220,7 +220,7 @@ call_named (callee.Out p) xs u at = call_out p xs u at
 -- what a procedure variable holds; NIL traps
 abbrev pub call_held : Value → List Passed → Around → Pos → M (Option Value)
 call_held (ProcedureAt q) xs u at = u.call q xs u.unit at
-call_held v xs u at = trap traps.nil u at
+call_held v xs u at = trap traps.Nil u at
 
 -- a proper procedure has no result
 abbrev pub result_of : Option Value → Value
@@ -298,7 +298,7 @@ assign_array p x = λ s. assign p (source_value x s.store) s
 
 -- a target whose dynamic type is not its static one traps
 abbrev pub assign_record : QName → Place → Source → Around → Pos → M (Unit {0})
-assign_record q p x u at = λ s. choose (is_exactly (type_of (value_at s.store p)) q) (assign p (as_record u.program q (source_value x s.store))) (trap traps.other_type u at) s
+assign_record q p x u at = λ s. choose (is_exactly (type_of (value_at s.store p)) q) (assign p (as_record u.program q (source_value x s.store))) (trap traps.OtherType u at) s
 
 -- the value or the source is found after the target's place
 abbrev pub assigned_by : Assigned → Place → M Value → M Source → Around → Pos → M (Unit {0})
@@ -333,7 +333,7 @@ with_object x p = λ s. assign p (Object (length s.made)) (record s { made = x �
 
 -- where the costs of all objects exceed the heap it traps
 abbrev pub make : AnObject → Place → Around → Pos → M (Unit {0})
-make x p u at = λ s. choose (nat_le (costs_of (x ∷ s.made)) u.heap) (with_object x p) (trap traps.heap_full u at) s
+make x p u at = λ s. choose (nat_le (costs_of (x ∷ s.made)) u.heap) (with_object x p) (trap traps.HeapFull u at) s
 
 abbrev pub object_for : Program → Made → AnObject
 object_for program (made.Record q) = Whole (record_in program q)
@@ -341,7 +341,7 @@ object_for program (made.Array t) = Whole (form_in program t)
 
 -- a length below 1 traps
 abbrev pub make_open : ℤ → TypeRef → Place → Around → Pos → M (Unit {0})
-make_open n t p u at = choose (is_positive n) (make (Opened (unsigned_abs n) (form_in u.program t)) p u at) (trap traps.no_length u at)
+make_open n t p u at = choose (is_positive n) (make (Opened (unsigned_abs n) (form_in u.program t)) p u at) (trap traps.NoLength u at)
 
 -- LOOPS
 
@@ -429,10 +429,10 @@ abbrev mutual
   exec (Copy e d at) u = source e u >>= λ x. place d u >>= λ p. done (copy_text x p u at)
   exec (New d what at) u = place d u >>= λ p. done (make (object_for u.program what) p u at)
   exec (NewOpenArray d t n at) u = place d u >>= λ p. value n u >>= λ v. done (make_open (integer_of v) t p u at)
-  exec (Assert e number at) u = value e u >>= λ v. choose (truth_of v) (give Done) (stop (Trapped traps.assertion_fails number u.unit at))
-  exec (Halt number at) u = stop (Trapped traps.halted number u.unit at)
+  exec (Assert e number at) u = value e u >>= λ v. choose (truth_of v) (give Done) (stop (Trapped traps.AssertionFails number u.unit at))
+  exec (Halt number at) u = stop (Trapped traps.Halted number u.unit at)
   exec (If branches otherwise) u = exec_branches branches u (execs otherwise u)
-  exec (Case e cases otherwise at) u = value e u >>= λ v. keep at (Integer (integer_of v)) >>= λ x. exec_cases cases (integer_of v) u (exec_else otherwise u (trap traps.no_case u at))
+  exec (Case e cases otherwise at) u = value e u >>= λ v. keep at (Integer (integer_of v)) >>= λ x. exec_cases cases (integer_of v) u (exec_else otherwise u (trap traps.NoCase u at))
   exec (While e body at) u = loops u at (value e u >>= λ v. choose (truth_of v) (execs body u >>= λ f. after_body f (give Again)) (give (Leave Done)))
   exec (Repeat body e at) u = loops u at (execs body u >>= λ f. after_body f (value e u >>= λ v. choose (truth_of v) (give (Leave Done)) (give Again)))
   exec (For v w start end step body at) u =
@@ -442,7 +442,7 @@ abbrev mutual
   exec (Loop body at) u = loops u at (execs body u >>= λ f. give (after_loop_body f))
   exec Exit u = give Leaves
   exec (Return e) u = optional e u >>= λ v. give (Back v)
-  exec (With branches otherwise at) u = exec_branches branches u (exec_else otherwise u (trap traps.no_match u at))
+  exec (With branches otherwise at) u = exec_branches branches u (exec_else otherwise u (trap traps.NoMatch u at))
 
   pub execs : Stmts → Around → M Flow
   execs Nothing u = give Done

@@ -2,6 +2,7 @@
 use Rattle.std.specs.Prelude.{ℕ, zero, suc, ◌-◌, min, List, [], ◌∷◌, ◌++◌, length, replicate, ℤ, pos, negsuc, ◌+ℤ◌, ◌-ℤ◌, ◌*ℤ◌, neg_ℤ, unsigned_abs, int_lt, nat_lt, nat_le, nat_eq, Option, Some, None, Bool, true, false, not, ◌&&◌, ◌||◌, if◌then◌else◌}
 use Rattle.std.specs.Ordering.{int_eq}
 use Rattle.std.specs.Fmt.{signed_decimal}
+use Rattle.ob_trap.specs.declared.trap.Trap.{Trap}
 use Rattle.ob_types.specs.declared.value.Value.{Value as Literal}
 use Rattle.ob_types.specs.declared.value.Value.TheVariants as literal
 use Rattle.ob_types.specs.Numbers.{is_in, is_positive, quotient, remainder, shifted, is_odd, capital, element_in, has_bit, holds}
@@ -18,14 +19,14 @@ use Rattle.ob_types.specs.declared.typed.Binary.TheVariants as binary
 use Rattle.ob_types.specs.declared.typed.Update.{Update}
 use Rattle.ob_types.specs.declared.typed.Update.TheVariants as update
 use Rattle.ob_meaning.specs.Values.{Value, Truth, Character, Integer, SetOf, Nil, Object, ProcedureAt, Elements, truth_of, character_of, integer_of, set_of, same_name}
-use Rattle.ob_meaning.specs.Traps as traps
+use Rattle.ob_trap.specs.declared.trap.Trap.TheVariants as traps
 
--- a value, or a trap of some kind
+-- a value, or a trap
 pub data Computed : Type 0 where
   Is : (v : Value) → Computed
-  Traps : (kind : ℕ) → Computed
+  Traps : (kind : Trap) → Computed
 
-abbrev pub unless : Bool → ℕ → Value → Computed
+abbrev pub unless : Bool → Trap → Value → Computed
 unless true kind v = Is v
 unless false kind v = Traps kind
 
@@ -33,17 +34,17 @@ unless false kind v = Traps kind
 
 -- a result outside its type traps
 abbrev pub integer_in : Width → ℤ → Computed
-integer_in w z = unless (is_in w z) traps.overflow (Integer z)
+integer_in w z = unless (is_in w z) traps.Overflow (Integer z)
 
 -- SETS
 
 abbrev pub with_element_in : Option ℕ → (ℕ → Value) → Computed
-with_element_in None v = Traps traps.no_element
+with_element_in None v = Traps traps.NoElement
 with_element_in (Some i) v = Is (v i)
 
 abbrev pub with_elements_in : Option ℕ → Option ℕ → (ℕ → ℕ → Value) → Computed
-with_elements_in None j v = Traps traps.no_element
-with_elements_in (Some i) None v = Traps traps.no_element
+with_elements_in None j v = Traps traps.NoElement
+with_elements_in (Some i) None v = Traps traps.NoElement
 with_elements_in (Some i) (Some j) v = Is (v i j)
 
 -- the first n of the numbers are in both sets or in neither
@@ -76,7 +77,7 @@ compute unary.Not v = Is (Truth (not (truth_of v)))
 compute unary.Complement v = Is (SetOf (λ i. nat_lt i 32 && not (set_of v i)))
 compute (unary.Abs w) v = integer_in w (pos (unsigned_abs (integer_of v)))
 compute unary.Cap v = Is (Character (capital (character_of v)))
-compute unary.Chr v = unless (is_positive (integer_of v +ℤ pos 1) && int_lt (integer_of v) (pos 256)) traps.overflow (Character (unsigned_abs (integer_of v)))
+compute unary.Chr v = unless (is_positive (integer_of v +ℤ pos 1) && int_lt (integer_of v) (pos 256)) traps.Overflow (Character (unsigned_abs (integer_of v)))
 compute (unary.Long w) v = Is v
 compute unary.Odd v = Is (Truth (is_odd (integer_of v)))
 compute unary.Ord v = Is (Integer (pos (character_of v)))
@@ -89,8 +90,8 @@ abbrev pub compute_both : Binary → Value → Value → Computed
 compute_both (binary.Add w) a b = integer_in w (integer_of a +ℤ integer_of b)
 compute_both (binary.Subtract w) a b = integer_in w (integer_of a -ℤ integer_of b)
 compute_both (binary.Multiply w) a b = integer_in w (integer_of a *ℤ integer_of b)
-compute_both (binary.Quotient w) a b = unless (is_positive (integer_of b)) traps.no_divisor (Integer (quotient (integer_of a) (unsigned_abs (integer_of b))))
-compute_both (binary.Remainder w) a b = unless (is_positive (integer_of b)) traps.no_divisor (Integer (remainder (integer_of a) (unsigned_abs (integer_of b))))
+compute_both (binary.Quotient w) a b = unless (is_positive (integer_of b)) traps.NoDivisor (Integer (quotient (integer_of a) (unsigned_abs (integer_of b))))
+compute_both (binary.Remainder w) a b = unless (is_positive (integer_of b)) traps.NoDivisor (Integer (remainder (integer_of a) (unsigned_abs (integer_of b))))
 compute_both binary.Union a b = Is (SetOf (λ i. set_of a i || set_of b i))
 compute_both binary.Difference a b = Is (SetOf (λ i. set_of a i && not (set_of b i)))
 compute_both binary.Intersection a b = Is (SetOf (λ i. set_of a i && set_of b i))

@@ -1,12 +1,13 @@
 -- What a part of a program comes to: a value and the state after it, or a stop.
 use Rattle.std.specs.Prelude.{ℕ, zero, suc, ◌++◌, List, ℤ, pos, Option}
+use Rattle.ob_trap.specs.declared.trap.Trap.{Trap}
 use Rattle.ob_tree.specs.declared.pos.Pos.{Pos}
 use Rattle.ob_tree.specs.declared.names.QName.{QName}
 use Rattle.ob_meaning.specs.Values.{Value, Place, State, Program, value_at, with_value_at}
 
--- why a command ends before its end: a trap with its kind and number, or turns that are spent, in a module at a position
+-- why a command ends before its end: a trap with the number that it tells beside its own, or turns that are spent, in a module at a position
 pub data Why : Type 0 where
-  Trapped : (kind : ℕ) → (number : ℤ) → (unit : List ℕ) → (at : Pos) → Why
+  Trapped : (kind : Trap) → (number : ℤ) → (unit : List ℕ) → (at : Pos) → Why
   Spent : (unit : List ℕ) → (at : Pos) → Why
 
 pub data Res (A : Type 0) : Type 0 where
@@ -68,5 +69,5 @@ pub record Around : Type 0 where
   pub bound : ℕ
   pub call : Caller
 
-abbrev pub trap : {A : Type 0} → ℕ → Around → Pos → M A
+abbrev pub trap : {A : Type 0} → Trap → Around → Pos → M A
 trap kind u at = stop (Trapped kind (pos 0) u.unit at)

@@ -1,5 +1,5 @@
 -- Laws of notebooks.
-use Rattle.std.proofs.Common.{◌≡◌, refl, sym, ap, ◌∙◌, ℕ, Bool, true, false, List, [], ◌∷◌, ◌++◌, Option, Some, None, cond, arith, Result, Ok, Err, OnOk}
+use Rattle.std.proofs.Common.{◌≡◌, refl, sym, ap, ◌∙◌, Bool, true, false, List, [], ◌∷◌, ◌++◌, Option, Some, None, cond, arith, Result, Ok, Err, OnOk}
 use Rattle.std.proofs.lemmas.List.{append-nil, append_assoc}
 use Rattle.ob_tree.specs.declared.names.QName.{QName}
 use Rattle.ob_tree.specs.declared.pos.Pos.{Pos}
@@ -9,6 +9,7 @@ use Rattle.ob_types_trees.specs.declared.designator.DesignatorTrees.{DesignatorT
 use Rattle.ob_rules.specs.declared.broken.Broken.{Broken}
 use Rattle.ob_rules.specs.declared.notes.Notebook.{Notebook}
 use Rattle.ob_rules.specs.declared.notes.Later.{Later}
+use Rattle.ob_rules.specs.declared.broken.Rule.{Rule}
 use Rattle.ob_rules.specs.Judged.{Notes, before, earlier, least, joined, no_notes, broken_at, naming, naming_type, naming_length, left_for_later, is_quiet}
 use Rattle.ob_rules.specs.Books.{book_after}
 use Rattle.ob_rules.proofs.Least.{earlier_none, earlier_assoc, least_append}
@@ -36,7 +37,7 @@ after_joined b m n =
     (append_assoc b.lengths.inner m.lengths n.lengths)
     (append_assoc b.later m.later n.later)
 
-pub after_broken : (b : Notebook) (rule : ℕ) (at : Pos) (o : Option Broken) → o ≡ earlier b.broken (Some (record { rule = rule; «pos» = at })) → record b { broken = o } ≡ book_after b (broken_at rule at)
+pub after_broken : (b : Notebook) (rule : Rule) (at : Pos) (o : Option Broken) → o ≡ earlier b.broken (Some (record { rule = rule; «pos» = at })) → record b { broken = o } ≡ book_after b (broken_at rule at)
 unfolding book_after
 after_broken b rule at o e = same_books e (sym (append-nil b.objects)) (sym (append-nil b.types)) (sym (append-nil b.lengths.inner)) (sym (append-nil b.later))
 

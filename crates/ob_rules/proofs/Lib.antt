@@ -2,3 +2,4 @@ mod Build
 pub mod Least
 pub mod BookLaws
 pub mod RowLaws
+pub mod RuleLaws

@@ -35,6 +35,7 @@ use Rattle.ob_rules.specs.Names.{bound_for, Around, map_of, out_string}
 use Rattle.ob_rules.specs.declared.values.Place.{Place}
 use Rattle.ob_rules.specs.declared.values.Valued.{Valued}
 use Rattle.ob_rules.specs.declared.values.Valued.TheVariants as valued
+use Rattle.ob_rules.specs.declared.broken.Rule.TheVariants as rule
 use Rattle.ob_rules.specs.Values.{computed, value_at, fits, is_chars, text_of, text_tree, type_in, tree, type, constant_in, place_in}
 use Rattle.ob_rules.specs.Phrases.{receiver_place, Phrase}
 
@@ -54,24 +55,24 @@ takes_variable map None formal t = same_at map t formal || both_records map (rec
 
 -- rule 38: a designator that ends in a guard on a pointer is passed as VAR
 abbrev pub unless_guarded : Map → TypeRef → Pos → Place → Judged Actual
-unless_guarded map t start p = also p.guarded 38 start (sound (actual_of (passing_of map mode.Var t) t (e.Designator p.designator.inner)))
+unless_guarded map t start p = also p.guarded rule.GuardedVarParameter start (sound (actual_of (passing_of map mode.Var t) t (e.Designator p.designator.inner)))
 
 -- rule 26: a read-only thing is
 abbrev pub unless_read_only : Map → TypeRef → Pos → Place → Judged Actual
-unless_read_only map t start p = also p.read_only 26 start (unless_guarded map t start p)
+unless_read_only map t start p = also p.read_only rule.NotChangeable start (unless_guarded map t start p)
 
 -- rule 25: an actual parameter does not fit
 abbrev pub variable_actual : Map → TypeRef → Pos → Place → Judged Actual
-variable_actual map t start p = also (not (takes_variable map (open_element map t) t p.of)) 25 start (unless_read_only map t start p)
+variable_actual map t start p = also (not (takes_variable map (open_element map t) t p.of)) rule.UnfitParameter start (unless_read_only map t start p)
 
 -- rule 26: a constant or a procedure is passed as VAR; rule 25: an expression or a call
 abbrev pub meant_actual : Map → TypeRef → Pos → Meant → Judged Actual
 meant_actual map t start (means.Place p) = variable_actual map t start p
-meant_actual map t start (means.Call x) = breaks 25 start
-meant_actual map t start m = breaks 26 start
+meant_actual map t start (means.Call x) = breaks rule.UnfitParameter start
+meant_actual map t start m = breaks rule.NotChangeable start
 
 abbrev pub var_actual : Around → TypeRef → Phrase → Option (Around → Judged Meant) → Judged Actual
-var_actual u t p None = p.value u ▷ λ x. breaks 25 p.start
+var_actual u t p None = p.value u ▷ λ x. breaks rule.UnfitParameter p.start
 var_actual u t p (Some meant) = meant u ▷ meant_actual (map_of u) t p.start
 
 abbrev pub array_takes : Map → TypeRef → Option TypeRef → Bool
@@ -89,7 +90,7 @@ tree_for false x = (tree x)
 
 -- rule 25
 abbrev pub value_actual : Map → TypeRef → Pos → Valued → Judged Actual
-value_actual map t start x = wants (takes_value map (open_element map t) t x) 25 start (actual_of (passing_of map mode.Value t) t (tree_for (is_array map t) x))
+value_actual map t start x = wants (takes_value map (open_element map t) t x) rule.UnfitParameter start (actual_of (passing_of map mode.Value t) t (tree_for (is_array map t) x))
 
 abbrev pub actual : Around → Mode → TypeRef → Phrase → Judged Actual
 actual u mode.Var t p = var_actual u t p p.meant
@@ -112,8 +113,8 @@ misplaced Elsewhere is_function = false
 -- rule 24: the number of actual parameters differs
 abbrev pub called_with : Where → Pos → Signature → ℕ → (List Actual → TypedExpr) → List Actual → Judged Valued
 called_with w at s n f xs =
-    wants (nat_eq n (length s.params)) 24 at xs
-    ▷ λ ys. also (misplaced w (is_some s.result)) 27 at (sound (computed (f ys) (result_type s.result)))
+    wants (nat_eq n (length s.params)) rule.WrongParameterCount at xs
+    ▷ λ ys. also (misplaced w (is_some s.result)) rule.MisplacedCall at (sound (computed (f ys) (result_type s.result)))
 
 abbrev pub called : Around → Where → Pos → Signature → List Phrase → (List Actual → TypedExpr) → Judged Valued
 called u w at s ps f = actuals u s.params ps ▷ called_with w at s (length ps) f
@@ -171,7 +172,7 @@ where_from c (Some base) = base
 abbrev pub call_bound_sound : Bool → Around → Where → Pos → Chosen → List Phrase → Judged Valued
 call_bound_sound false u w at c ps = actuals u [] ps ▷ λ xs. silent
 call_bound_sound true u w at c ps =
-    also (is_record_receiver c.method.receiver && ((receiver_place c).read_only && is_none c.base)) 26 at (called u w at c.method.signature ps (λ xs. e.Call (bound_callee c c.base) (receiver_actual c.method.receiver c ∷ xs) at c.method.signature.result))
+    also (is_record_receiver c.method.receiver && ((receiver_place c).read_only && is_none c.base)) rule.NotChangeable at (called u w at c.method.signature ps (λ xs. e.Call (bound_callee c c.base) (receiver_actual c.method.receiver c ∷ xs) at c.method.signature.result))
 
 -- a call whose nearest declaration breaks a rule is silent
 abbrev pub call_bound : Around → Where → Pos → Chosen → List Phrase → Judged Valued

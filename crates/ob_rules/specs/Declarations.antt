@@ -43,6 +43,7 @@ use Rattle.ob_rules.specs.declared.notes.Later.{Later}
 use Rattle.ob_rules.specs.declared.entity.Entity.TheVariants as entity
 use Rattle.ob_rules.specs.declared.notes.Later.TheVariants as later
 use Rattle.ob_rules.specs.declared.broken.Broken.{Broken}
+use Rattle.ob_rules.specs.declared.broken.Rule.TheVariants as rule
 use Rattle.ob_rules.specs.Judged.{notes_if, Judged, Notes, sound, silent, breaks, also, wants, unless, both, made, noted, joined, no_notes, broken_at, least, ◌▷◌}
 use Rattle.ob_rules.specs.Shapes.{Map, Member, AField, AMethod, member, is_structured, is_held, record_of}
 use Rattle.ob_rules.specs.Names.{is_among, Around, map_of, in_unit, found_in_scope, predeclared, is_out}
@@ -95,13 +96,13 @@ abbrev pub declare : Around → Ident → Entity → Around
 declare u x e = declare_if (found_in_scope u x.name) u x e
 
 abbrev pub twice : Around → Ident → Notes
-twice u x = notes_if (is_some (found_in_scope u x.name)) 1 x.pos
+twice u x = notes_if (is_some (found_in_scope u x.name)) rule.DeclaredTwice x.pos
 
 -- CONSTANTS
 
 -- rule 10: a declared constant is NIL
 abbrev pub no_nil : Pos → Value → Judged Value
-no_nil at literal.Nil = breaks 10 at
+no_nil at literal.Nil = breaks rule.NotConstant at
 no_nil at v = sound v
 
 abbrev pub constant_entity : Option (Mark × Value) → Entity
@@ -269,7 +270,7 @@ is_wrong map (later.PointsTo x at t inline) = is_held map t && is_held map (targ
 is_wrong map (later.Inherits x t) = false
 
 abbrev pub wrong_at : Later → Notes
-wrong_at (later.PointsTo x at t inline) = broken_at 15 at
+wrong_at (later.PointsTo x at t inline) = broken_at rule.UnfitPointerBase at
 wrong_at (later.Inherits x t) = no_notes
 
 abbrev pub add_if : Bool → List ℕ → List (List ℕ) → List (List ℕ)
@@ -332,7 +333,7 @@ pointers_judged u ls = (judge_pointers u (filter is_pointer_left ls) (filter is_
 -- rule 1 of a field with the name of a bound procedure of a base
 abbrev pub field_judged : Map → Later → Notes
 field_judged map (later.PointsTo x at t inline) = no_notes
-field_judged map (later.Inherits x t) = notes_if (is_method (member_of map (record_of map t) x.name)) 1 x.pos
+field_judged map (later.Inherits x t) = notes_if (is_method (member_of map (record_of map t) x.name)) rule.DeclaredTwice x.pos
 
 abbrev pub all_judged : (Later → Notes) → List Later → Notes
 all_judged f [] = no_notes
@@ -346,7 +347,7 @@ nothing_later n = record { broken = n.broken; objects = n.objects; types = n.typ
 -- rule 4: the name after END is not the procedure's
 abbrev pub closing_judged : List ℕ → Option Ident → Notes
 closing_judged x None = no_notes
-closing_judged x (Some c) = notes_if (not (bytes_eq c.name x)) 4 c.pos
+closing_judged x (Some c) = notes_if (not (bytes_eq c.name x)) rule.WrongClosingName c.pos
 
 abbrev pub received_by : Option Ident → Option BoundAs → Option Received
 received_by (Some x) (Some b) = Some (record { variable = self_of x b.receiver; owner = b.owner })
@@ -519,7 +520,7 @@ import_entity false t = entity.Module t.name
 
 abbrev pub import_declared : Import → Ident → Around → Declared
 import_declared i t u = record {
-  part = only_notes (joined (notes_if (is_system t.name) 5 t.pos) (twice u i.ident));
+  part = only_notes (joined (notes_if (is_system t.name) rule.ReservedModule t.pos) (twice u i.ident));
   around = declare u i.ident (import_entity (is_system t.name) t);
 }
 
@@ -562,7 +563,7 @@ around_module shown unit ds = record {
 }
 
 abbrev pub name_judged : Ident → Ident → Notes
-name_judged name closing = joined (notes_if (is_out name.name || is_system name.name) 5 name.pos) (closing_judged name.name (Some closing))
+name_judged name closing = joined (notes_if (is_out name.name || is_system name.name) rule.ReservedModule name.pos) (closing_judged name.name (Some closing))
 
 abbrev pub module_from : List Declaration → List Judging → Declared → Part
 module_from ds body d = with_part d.part (block ds body d.around)

@@ -42,6 +42,7 @@ use Rattle.ob_rules.specs.Names.{Around, map_of, named, is_out, out_procedure, e
 use Rattle.ob_rules.specs.declared.values.Place.{Place}
 use Rattle.ob_rules.specs.declared.values.Valued.{Valued}
 use Rattle.ob_rules.specs.declared.values.Valued.TheVariants as valued
+use Rattle.ob_rules.specs.declared.broken.Rule.TheVariants as rule
 use Rattle.ob_rules.specs.Values.{is_integer, tree, type, constant_in, place_in}
 use Rattle.ob_rules.specs.Phrases.{dereferenced, Phrase, Behind, Dot, Index, Up, Round}
 use Rattle.ob_rules.specs.Calls.{call_procedure, call_variable, call_out, call_bound}
@@ -113,7 +114,7 @@ variable_named u at v t read_only = with_guards (map_of u) at v u.guards (sound 
 
 -- rule 23: a guard whose type is no extension of the static type, or on what is neither pointer nor VAR record parameter
 abbrev pub guard : Map → Pos → Place → TypeRef → Judged Meant
-guard map at p t = found_or 23 at (guard_of map p t) ▷ λ g. sound (means.Place (guarded_by p g t at true))
+guard map at p t = found_or rule.UnfitTypeTest at (guard_of map p t) ▷ λ g. sound (means.Place (guarded_by p g t at true))
 
 -- DEREFERENCES, INDICES AND FIELDS
 
@@ -132,7 +133,7 @@ is_there map (Some t) = is_held map t
 
 -- rule 22: a selector does not fit the type
 abbrev pub dereference_of : Map → Pos → Place → Option TypeRef → Judged Place
-dereference_of map at p None = breaks 22 at
+dereference_of map at p None = breaks rule.UnfitSelector at
 dereference_of map at p (Some t) = if_held map t (dereferenced p at t true)
 
 abbrev pub dereference : Map → Pos → Place → Judged Place
@@ -152,8 +153,8 @@ indexed p at i a = record { designator = record { inner = d.Index p.designator.i
 
 -- rule 22 is asked of the variable, and, where that is an array, of the index
 abbrev pub index_into : Map → Pos → Place → Judged Valued → Option (Option ℕ × TypeRef) → Judged Place
-index_into map at p i None = noted i.notes (breaks 22 at)
-index_into map at p i (Some a) = i ▷ λ x. wants (is_integer map x) 22 at (indexed p at x a)
+index_into map at p i None = noted i.notes (breaks rule.UnfitSelector at)
+index_into map at p i (Some a) = i ▷ λ x. wants (is_integer map x) rule.UnfitSelector at (indexed p at x a)
 
 abbrev pub index_if : Option Place → Judged Valued → (Place → Judged Place) → Judged Place
 index_if None i f = noted i.notes silent
@@ -175,7 +176,7 @@ abbrev pub chosen : Pos → Place → Option TypeRef → QName → QName → Met
 chosen start p pointed owner introduced m = record { receiver = p; start = start; pointed = pointed; owner = owner; introduced = introduced; method = m; base = None }
 
 abbrev pub with_receiver : Receiver → Bool → Pos → Chosen → Judged Meant
-with_receiver receiver.Pointer false at c = breaks 22 at
+with_receiver receiver.Pointer false at c = breaks rule.UnfitSelector at
 with_receiver r pointer at c = sound (means.Bound c)
 
 -- rule 22: a bound procedure with a pointer receiver, selected of a record
@@ -215,9 +216,9 @@ nothing_behind (b ∷ bs) = false
 
 -- rule 39: a bound procedure, which is known in the whole module, is used as a value before its heading
 abbrev pub not_there : Bool → Bool → Pos → Ident → Judged Meant
-not_there true true start x = breaks 39 start
+not_there true true start x = breaks rule.UnfitProcedureValue start
 not_there true false start x = silent
-not_there false last start x = breaks 2 x.pos
+not_there false last start x = breaks rule.NotDeclared x.pos
 
 -- p is the variable, and q what it points to, if it is a pointer
 abbrev pub member_found : Around → Pos → Pos → Place → Place → Option TypeRef → QName → Member → Judged Meant
@@ -231,7 +232,7 @@ member_of u start at x p q pointed rec last (Some m) = member_found u start at p
 
 -- rule 22: neither a record nor a pointer to one
 abbrev pub select_of : Around → Pos → Pos → Ident → Place → Place → Option TypeRef → Bool → Option QName → Judged Meant
-select_of u start at x p q pointed last None = breaks 22 at
+select_of u start at x p q pointed last None = breaks rule.UnfitSelector at
 select_of u start at x p q pointed last (Some rec) = member_of u start at x p q pointed rec last (member (map_of u) rec x.name)
 
 abbrev pub select_through : Around → Pos → Pos → Ident → Place → Bool → Option TypeRef → Judged Meant
@@ -243,18 +244,18 @@ select u start at x p last = select_through u start at x p last (pointed (map_of
 -- rule 40: `P^` on what is not the receiver of the enclosing bound procedure, or where no base has P
 abbrev pub super_of : Pos → Chosen → QName → Option Member → Judged Meant
 super_of at c base (Some (AMethod owner m)) = sound (means.Bound (record { receiver = c.receiver; start = c.start; pointed = c.pointed; owner = c.owner; introduced = owner; method = m; base = Some base }))
-super_of at c base m = breaks 40 at
+super_of at c base m = breaks rule.UnfitSuperCall at
 
 abbrev pub super_in : Map → Pos → Chosen → Option QName → Judged Meant
-super_in map at c None = breaks 40 at
+super_in map at c None = breaks rule.UnfitSuperCall at
 super_in map at c (Some base) = super_of at c base (member map base c.method.name)
 
 abbrev pub super_if : Bool → Map → Pos → Chosen → QName → Judged Meant
 super_if true map at c owner = super_in map at c (base_record map owner)
-super_if false map at c owner = breaks 40 at
+super_if false map at c owner = breaks rule.UnfitSuperCall at
 
 abbrev pub super : Map → Pos → Chosen → Option Received → Judged Meant
-super map at c None = breaks 40 at
+super map at c None = breaks rule.UnfitSuperCall at
 super map at c (Some r) = super_if (same_variable c.receiver.root r.variable && not c.receiver.selected) map at c r.owner
 
 -- SELECTORS
@@ -294,7 +295,7 @@ as_call x = x ▷ λ v. sound (means.Call v)
 abbrev pub place_round : Around → Where → Pos → Pos → Place → List Phrase → Option Qualident → Option Signature → Judged Meant
 place_round u w start at p ps (Some q) s = type_named u q ▷ guard (map_of u) at p
 place_round u w start at p ps None (Some s) = as_call (call_variable u w start p s ps)
-place_round u w start at p ps None None = noted (visited u ps) (breaks 22 at)
+place_round u w start at p ps None None = noted (visited u ps) (breaks rule.UnfitSelector at)
 
 -- MAX and MIN alone take a type in round brackets; behind another procedure or a constant it is a guard, which does not fit
 abbrev pub call_meant : Around → Where → Pos → Meant → List Phrase → Judged Meant
@@ -323,22 +324,22 @@ is_guardable m = is_callable m
 -- rule 22 in the end: something follows a call, or what has no parameters
 abbrev pub other_round : Around → Where → Pos → Pos → Meant → List Phrase → Option Qualident → Bool → Bool → Bool → Judged Meant
 other_round u w start at m ps q true guardable callable = call_meant u w start m ps
-other_round u w start at m ps (Some q) false true callable = type_named u q ▷ λ t. breaks 23 at
+other_round u w start at m ps (Some q) false true callable = type_named u q ▷ λ t. breaks rule.UnfitTypeTest at
 other_round u w start at m ps None false guardable true = call_meant u w start m ps
-other_round u w start at m ps q false guardable callable = noted (visited u ps) (breaks 22 at)
+other_round u w start at m ps q false guardable callable = noted (visited u ps) (breaks rule.UnfitSelector at)
 
 abbrev pub step_dot : Around → Pos → Pos → Ident → Bool → Meant → Judged Meant
 step_dot u start at x last (means.Place p) = select u start at x p last
-step_dot u start at x last m = breaks 22 at
+step_dot u start at x last m = breaks rule.UnfitSelector at
 
 abbrev pub step_index : Map → Pos → Judged Valued → Meant → Judged Meant
 step_index map at i (means.Place p) = index map at p i ▷ λ q. sound (means.Place q)
-step_index map at i m = noted i.notes (breaks 22 at)
+step_index map at i m = noted i.notes (breaks rule.UnfitSelector at)
 
 abbrev pub step_up : Around → Pos → Meant → Judged Meant
 step_up u at (means.Place p) = dereference (map_of u) at p ▷ λ q. sound (means.Place q)
 step_up u at (means.Bound c) = super (map_of u) at c u.receiver
-step_up u at m = breaks 22 at
+step_up u at m = breaks rule.UnfitSelector at
 
 abbrev pub step_round : Around → Where → Pos → Pos → List Phrase → Meant → Judged Meant
 step_round u w start at ps (means.Place p) = place_round u w start at p ps (type_in_round u ps) (signature_at (map_of u) p.of)
@@ -378,10 +379,10 @@ abbrev pub exported_meant : Around → Pos → Pos → List ℕ → List ℕ →
 exported_meant u start at m x (desc.Const v) = sound (means.Constant v)
 exported_meant u start at m x (desc.Var k t) = of_variable (variable_named u start (variable.Module m x) t (is_read_only k))
 exported_meant u start at m x (desc.Proc s) = sound (means.Procedure (record { «module» = m; object = x }) s)
-exported_meant u start at m x t = breaks 3 at
+exported_meant u start at m x t = breaks rule.WrongKind at
 
 abbrev pub out_meant : Pos → Option OutProcedure → Judged Meant
-out_meant at None = breaks 2 at
+out_meant at None = breaks rule.NotDeclared at
 out_meant at (Some p) = sound (means.Out p)
 
 abbrev pub in_module : Bool → Around → Pos → List ℕ → Ident → Judged Meant
@@ -395,7 +396,7 @@ dot_of bs = None
 
 -- a module's name alone is rule 3
 abbrev pub module_front : Around → Pos → List ℕ → Option Ident → Judged Meant
-module_front u start m None = breaks 3 start
+module_front u start m None = breaks rule.WrongKind start
 module_front u start m (Some y) = in_module (is_out m) u start m y
 
 -- rule 3: a name whose kind does not fit its place
@@ -406,7 +407,7 @@ front_of u x (entity.Procedure name s) dot = sound (means.Procedure name s)
 front_of u x (entity.Forward name s) dot = sound (means.Procedure name s)
 front_of u x (entity.Predeclared f) dot = sound (means.Predeclared f)
 front_of u x (entity.Module m) dot = module_front u x.pos m dot
-front_of u x e dot = breaks 3 x.pos
+front_of u x e dot = breaks rule.WrongKind x.pos
 
 -- the selectors behind the name, or behind a module's name with the name in it
 abbrev pub is_module : Entity → Bool

@@ -36,6 +36,7 @@ use Rattle.ob_rules.specs.Names.{Around, map_of, type_named}
 use Rattle.ob_rules.specs.declared.values.Place.{Place}
 use Rattle.ob_rules.specs.declared.values.Valued.{Valued}
 use Rattle.ob_rules.specs.declared.values.Valued.TheVariants as valued
+use Rattle.ob_rules.specs.declared.broken.Rule.TheVariants as rule
 use Rattle.ob_rules.specs.Values.{constant, computed, value_at, points, type_in, tree, type, constant_in, place_in}
 use Rattle.ob_rules.specs.Constants.{text_value}
 use Rattle.ob_rules.specs.Operators.{combined, opposite, signed, related, element, set_of}
@@ -79,16 +80,16 @@ integer_text text = integer_by (is_marked text) text
 
 -- rule 9: an integer above 2147483647 or a character above 0FFX
 abbrev pub integer_literal : Pos → ℕ → Judged Valued
-integer_literal at n = wants (nat_le n 2147483647) 9 at (constant (literal.Int (pos n)))
+integer_literal at n = wants (nat_le n 2147483647) rule.LiteralTooLarge at (constant (literal.Int (pos n)))
 
 abbrev pub char_literal : Pos → ℕ → Judged Valued
-char_literal at n = wants (nat_le n 255) 9 at (constant (literal.Char n))
+char_literal at n = wants (nat_le n 255) rule.LiteralTooLarge at (constant (literal.Char n))
 
 -- A DESIGNATOR AS A VALUE
 
 abbrev pub procedure_value : Bool → Pos → QName → Valued → Judged Valued
 procedure_value true at name x = sound x
-procedure_value false at name x = breaks 39 at
+procedure_value false at name x = breaks rule.UnfitProcedureValue at
 
 -- rule 39: a predeclared, bound, inner or Out procedure is used as a value
 abbrev pub value_meant : Pos → Meant → Judged Valued
@@ -97,7 +98,7 @@ value_meant at (means.Constant v) = sound (constant v)
 value_meant at (means.Procedure name s) = procedure_value (is_value name) at name (computed (e.Procedure name s) (kind.Procedure s))
 value_meant at (means.Call x) = sound x
 value_meant at (means.Statement s) = silent
-value_meant at m = breaks 39 at
+value_meant at m = breaks rule.UnfitProcedureValue at
 
 abbrev pub name_alone : Ident → List Behind → Option Qualident
 name_alone x [] = Some (record { qualifier = None; ident = x })
@@ -153,10 +154,10 @@ test_of map x t None = test_record map (place_in x) t
 
 -- rule 23: a test whose type is no extension of the static type, or on what is neither pointer nor VAR record parameter
 abbrev pub test : Map → Pos → Valued → TypeRef → Judged Valued
-test map at x t = found_or 23 at (test_of map x t (record_if map (type_in (type x))))
+test map at x t = found_or rule.UnfitTypeTest at (test_of map x t (record_if map (type_in (type x))))
 
 abbrev pub untestable : Map → Pos → Judged Valued → Judged Valued
-untestable map at x = x ▷ λ v. wants (testable map v) 23 at v
+untestable map at x = x ▷ λ v. wants (testable map v) rule.UnfitTypeTest at v
 
 -- a type's name behind IS, judged by itself
 abbrev pub type_test : Around → Pos → Judged Valued → Qualident → Judged Valued
@@ -164,7 +165,7 @@ type_test u at x q = both (untestable (map_of u) at x) (type_named u q) ▷ λ p
 
 -- rule 21: something else
 abbrev pub other_test : Map → Pos → Judged Valued → Judged Valued → Judged Valued
-other_test map at x y = both x y ▷ λ p. also (not (testable map p.0)) 23 at (breaks 21 at)
+other_test map at x y = both x y ▷ λ p. also (not (testable map p.0)) rule.UnfitTypeTest at (breaks rule.UnfitOperands at)
 
 abbrev pub is_test : Around → Pos → Judged Valued → Phrase → Option Qualident → Judged Valued
 is_test u at x r (Some q) = type_test u at x q
@@ -255,12 +256,12 @@ behind_of = fold-Selector Phrase Behind Named Ranged Tailed expr_rule selector_r
 -- CONSTANT EXPRESSIONS
 
 abbrev pub constant_of : Pos → Option Value → Judged Value
-constant_of start None = breaks 10 start
+constant_of start None = breaks rule.NotConstant start
 constant_of start (Some v) = sound v
 
 abbrev pub constant_if : Pos → Option Valued → Bool → Judged Value
 constant_if start (Some x) quiet = constant_of start (constant_in x)
-constant_if start None true = breaks 10 start
+constant_if start None true = breaks rule.NotConstant start
 constant_if start None false = silent
 
 abbrev pub constant_judged : Pos → Judged Valued → Judged Value

@@ -32,6 +32,7 @@ use Rattle.ob_rules.specs.declared.entity.Known.{Known}
 use Rattle.ob_rules.specs.declared.entity.Bound.{Bound}
 use Rattle.ob_rules.specs.declared.entity.Entity.TheVariants as entity
 use Rattle.ob_rules.specs.declared.broken.Broken.{Broken}
+use Rattle.ob_rules.specs.declared.broken.Rule.TheVariants as rule
 use Rattle.ob_rules.specs.Judged.{notes_if, Judged, Notes, sound, silent, breaks, also, wants, unless, both, made, noted, joined, no_notes, broken_at, ◌▷◌}
 use Rattle.ob_rules.specs.Shapes.{Map, Member, AField, AMethod, member, record_of, pointed, pointed_record, is_held, base_record}
 use Rattle.ob_rules.specs.Names.{Around, map_of, in_unit, type_named, found_in_scope}
@@ -75,7 +76,7 @@ silent_base map var t = false
 abbrev pub bound_to : Pos → Bool → TypeRef → Bool → Option QName → Judged BoundAs
 bound_to at var t quiet (Some q) = sound (record { of = t; owner = q; receiver = kind_of var })
 bound_to at var t true None = silent
-bound_to at var t false None = breaks 19 at
+bound_to at var t false None = breaks rule.UnfitReceiver at
 
 abbrev pub owner_of : Around → RawReceiver → Judged BoundAs
 owner_of u r =
@@ -226,7 +227,7 @@ abbrev pub name_twice : Around → List Head → Head → Bool
 name_twice u hs h = twice_by u hs h h.is_bound h.bound
 
 abbrev pub declared_head : Bool → Head → Around → Head
-declared_head true h u = record h { parameters = None; notes = joined h.notes (broken_at 1 h.at); known = u.known }
+declared_head true h u = record h { parameters = None; notes = joined h.notes (broken_at rule.DeclaredTwice h.at); known = u.known }
 declared_head false h u = record h { known = u.known }
 
 abbrev pub knows_procedure : Around → Head → Bool → Around
@@ -300,7 +301,7 @@ forward_broken map f None = true
 forward_broken map f (Some h) = both_sound f.parameters h.parameters && not (signatures_match map (signature_if f.parameters) (signature_if h.parameters) && same_receiver map f.bound h.bound)
 
 abbrev pub forward_judged : Map → Head → Option Head → Notes
-forward_judged map f h = notes_if (forward_broken map f h) 18 f.at
+forward_judged map f h = notes_if (forward_broken map f h) rule.UnmatchedForward f.at
 
 abbrev pub forward_if : Bool → Map → List Head → Head → Notes
 forward_if true map all f = forward_judged map f (find (answers f) all)
@@ -372,10 +373,10 @@ introduce s h b = record {
 
 -- rule 1: a bound procedure has the name of a visible field; a forward declaration alone is only without its procedure
 abbrev pub clashes : Binding → Head → BoundAs → Binding
-clashes s h b = record { own = s.own; bound = record (bound_as h b) { signature = None } ∷ s.bound; notes = joined s.notes (notes_if (not h.forward) 1 h.at) }
+clashes s h b = record { own = s.own; bound = record (bound_as h b) { signature = None } ∷ s.bound; notes = joined s.notes (notes_if (not h.forward) rule.DeclaredTwice h.at) }
 
 abbrev pub redefined : Bool → Binding → Head → BoundAs → Binding
-redefined true s h b = record { own = s.own; bound = record (bound_as h b) { signature = None } ∷ s.bound; notes = joined s.notes (broken_at 20 h.at) }
+redefined true s h b = record { own = s.own; bound = record (bound_as h b) { signature = None } ∷ s.bound; notes = joined s.notes (broken_at rule.UnmatchedRedefinition h.at) }
 redefined false s h b = record { own = s.own; bound = bound_as h b ∷ s.bound; notes = s.notes }
 
 -- rule 20: a redefinition whose parameters do not match or whose receiver is of the other kind. It is silent where the other declaration breaks a rule

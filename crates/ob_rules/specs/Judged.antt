@@ -8,6 +8,8 @@ use Rattle.ob_types.specs.declared.typed.Designator.{Designator}
 use Rattle.ob_rules.specs.declared.notes.Later.{Later}
 use Rattle.ob_rules.specs.declared.notes.Later.TheVariants as later
 use Rattle.ob_rules.specs.declared.broken.Broken.{Broken}
+use Rattle.ob_rules.specs.declared.broken.Rule.{Rule}
+use Rattle.ob_rules.specs.declared.broken.Rule.TheVariants as rule
 
 -- what is broken; the objects of other modules that the text names; the types that MAX and MIN name; the designators of each LEN that is a constant; and what is judged later
 pub record Notes : Type 0 where
@@ -34,16 +36,16 @@ sound x = record { node = Some x; notes = no_notes }
 abbrev pub silent : {A : Type 0} → Judged A
 silent = record { node = None; notes = no_notes }
 
-abbrev pub broken_at : ℕ → Pos → Notes
-broken_at rule at = record { broken = record { rule = rule; «pos» = at } ∷ []; objects = []; types = []; lengths = []; later = [] }
+abbrev pub broken_at : Rule → Pos → Notes
+broken_at which at = record { broken = record { rule = which; «pos» = at } ∷ []; objects = []; types = []; lengths = []; later = [] }
 
 -- the rule is broken there, if it is so
-abbrev pub notes_if : Bool → ℕ → Pos → Notes
-notes_if true rule at = broken_at rule at
-notes_if false rule at = no_notes
+abbrev pub notes_if : Bool → Rule → Pos → Notes
+notes_if true which at = broken_at which at
+notes_if false which at = no_notes
 
-abbrev pub breaks : {A : Type 0} → ℕ → Pos → Judged A
-breaks rule at = record { node = None; notes = broken_at rule at }
+abbrev pub breaks : {A : Type 0} → Rule → Pos → Judged A
+breaks which at = record { node = None; notes = broken_at which at }
 
 -- the node, and more notes before it
 abbrev pub noted : {A : Type 0} → Notes → Judged A → Judged A
@@ -108,23 +110,23 @@ if_there None = sound None
 if_there (Some a) = made (λ x. Some x) a
 
 -- the part is sound, or the rule is broken there
-abbrev pub unless : {A : Type 0} → Bool → ℕ → Pos → A → Judged A
-unless true rule at x = breaks rule at
-unless false rule at x = sound x
+abbrev pub unless : {A : Type 0} → Bool → Rule → Pos → A → Judged A
+unless true which at x = breaks which at
+unless false which at x = sound x
 
-abbrev pub wants : {A : Type 0} → Bool → ℕ → Pos → A → Judged A
-wants true rule at x = sound x
-wants false rule at x = breaks rule at
+abbrev pub wants : {A : Type 0} → Bool → Rule → Pos → A → Judged A
+wants true which at x = sound x
+wants false which at x = breaks which at
 
 -- there is something, or the rule is broken there
-abbrev pub found_or : {A : Type 0} → ℕ → Pos → Option A → Judged A
-found_or rule at None = breaks rule at
-found_or rule at (Some x) = sound x
+abbrev pub found_or : {A : Type 0} → Rule → Pos → Option A → Judged A
+found_or which at None = breaks which at
+found_or which at (Some x) = sound x
 
 -- several conditions of one node: each speaks for itself
-abbrev pub also : {A : Type 0} → Bool → ℕ → Pos → Judged A → Judged A
-also true rule at a = record { node = None; notes = joined (broken_at rule at) a.notes }
-also false rule at a = a
+abbrev pub also : {A : Type 0} → Bool → Rule → Pos → Judged A → Judged A
+also true which at a = record { node = None; notes = joined (broken_at which at) a.notes }
+also false which at a = a
 
 abbrev pub notes_of : {A : Type 0} → List (Judged A) → Notes
 notes_of [] = no_notes
@@ -137,10 +139,50 @@ is_quiet (b ∷ bs) = false
 
 -- THE LEAST BROKEN RULE: THE FIRST BY POSITION, THEN BY NUMBER
 
+-- the number by which a rule is told
+abbrev pub number_of : Rule → ℕ
+number_of rule.DeclaredTwice = 1
+number_of rule.NotDeclared = 2
+number_of rule.WrongKind = 3
+number_of rule.WrongClosingName = 4
+number_of rule.ReservedModule = 5
+number_of rule.MisplacedMark = 6
+number_of rule.LeftOut = 7
+number_of rule.OuterVariable = 8
+number_of rule.LiteralTooLarge = 9
+number_of rule.NotConstant = 10
+number_of rule.ConstantOutOfRange = 11
+number_of rule.UnfitLength = 12
+number_of rule.MisplacedOpenArray = 13
+number_of rule.UnfitBase = 14
+number_of rule.UnfitPointerBase = 15
+number_of rule.StructuredResult = 17
+number_of rule.UnmatchedForward = 18
+number_of rule.UnfitReceiver = 19
+number_of rule.UnmatchedRedefinition = 20
+number_of rule.UnfitOperands = 21
+number_of rule.UnfitSelector = 22
+number_of rule.UnfitTypeTest = 23
+number_of rule.WrongParameterCount = 24
+number_of rule.UnfitParameter = 25
+number_of rule.NotChangeable = 26
+number_of rule.MisplacedCall = 27
+number_of rule.UnfitPredeclaredParameters = 28
+number_of rule.NotAssignable = 31
+number_of rule.NotBoolean = 32
+number_of rule.UnfitCase = 33
+number_of rule.UnfitFor = 34
+number_of rule.MisplacedExit = 35
+number_of rule.UnfitReturn = 36
+number_of rule.UnfitWith = 37
+number_of rule.GuardedVarParameter = 38
+number_of rule.UnfitProcedureValue = 39
+number_of rule.UnfitSuperCall = 40
+
 abbrev pub before : Broken → Broken → Bool
 before a b =
     nat_lt a.pos.line b.pos.line
-    || (a.pos.line == b.pos.line && (nat_lt a.pos.col b.pos.col || (a.pos.col == b.pos.col && nat_lt a.rule b.rule)))
+    || (a.pos.line == b.pos.line && (nat_lt a.pos.col b.pos.col || (a.pos.col == b.pos.col && nat_lt (number_of a.rule) (number_of b.rule))))
 
 abbrev pub earlier : Option Broken → Option Broken → Option Broken
 earlier None b = b

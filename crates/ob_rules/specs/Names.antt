@@ -29,6 +29,7 @@ use Rattle.ob_rules.specs.declared.entity.Received.{Received}
 use Rattle.ob_rules.specs.declared.entity.Entity.TheVariants as entity
 use Rattle.ob_rules.specs.declared.broken.Predeclared.{Predeclared}
 use Rattle.ob_rules.specs.declared.broken.Predeclared.TheVariants as pre
+use Rattle.ob_rules.specs.declared.broken.Rule.TheVariants as rule
 use Rattle.ob_rules.specs.Judged.{Judged, sound, silent, breaks, names, ◌▷◌}
 use Rattle.ob_rules.specs.Shapes.{Map, same_name}
 
@@ -107,19 +108,19 @@ abbrev pub is_enclosing : Around → ℕ → Bool
 is_enclosing u scope = nat_lt 1 scope && nat_lt scope u.level
 
 abbrev pub variable_known : Bool → Pos → Entity → Judged Entity
-variable_known true at e = breaks 8 at
+variable_known true at e = breaks rule.OuterVariable at
 variable_known false at e = sound e
 
 -- rule 7: REAL, LONGREAL, ENTIER or SIZE, not declared anew; rule 8: a variable or parameter of an enclosing procedure
 abbrev pub entity_known : Around → Pos → ℕ → Entity → Judged Entity
-entity_known u at scope entity.LeftOut = breaks 7 at
+entity_known u at scope entity.LeftOut = breaks rule.LeftOut at
 entity_known u at scope entity.Unsound = silent
 entity_known u at scope (entity.Variable v t) = variable_known (is_enclosing u scope) at (entity.Variable v t)
 entity_known u at scope e = sound e
 
 -- rule 2: a name that is not declared, or not yet
 abbrev pub name_known : Around → Pos → Option Known → Judged Entity
-name_known u at None = breaks 2 at
+name_known u at None = breaks rule.NotDeclared at
 name_known u at (Some k) = entity_known u at k.scope k.what
 
 abbrev pub named : Around → Ident → Judged Entity
@@ -151,7 +152,7 @@ shown_of (Some d) = record_unless_hidden d
 
 -- rule 2: a name that is not exported
 abbrev pub export_known : QName → Pos → Option Desc → Judged (QName × Desc)
-export_known q at None = breaks 2 at
+export_known q at None = breaks rule.NotDeclared at
 export_known q at (Some d) = names q (sound (q, d))
 
 abbrev pub exported : Around → List ℕ → Ident → Judged (QName × Desc)
@@ -173,14 +174,14 @@ is_out m = bytes_eq m (codes "Out")
 -- THE NAME OF A TYPE
 
 abbrev pub type_of_desc : Pos → QName → Desc → Judged TypeRef
-type_of_desc at q (desc.Const v) = breaks 3 at
-type_of_desc at q (desc.Var m t) = breaks 3 at
-type_of_desc at q (desc.Proc s) = breaks 3 at
+type_of_desc at q (desc.Const v) = breaks rule.WrongKind at
+type_of_desc at q (desc.Var m t) = breaks rule.WrongKind at
+type_of_desc at q (desc.Proc s) = breaks rule.WrongKind at
 type_of_desc at q d = sound (ref.Named q)
 
 abbrev pub out_type : Pos → Option OutProcedure → Judged TypeRef
-out_type at None = breaks 2 at
-out_type at (Some p) = breaks 3 at
+out_type at None = breaks rule.NotDeclared at
+out_type at (Some p) = breaks rule.WrongKind at
 
 abbrev pub type_in : Bool → Around → List ℕ → Ident → Judged TypeRef
 type_in true u m x = out_type x.pos (out_procedure x.name)
@@ -189,19 +190,19 @@ type_in false u m x = exported u m x ▷ λ e. type_of_desc x.pos e.0 e.1
 -- rule 3: a name whose kind does not fit its place
 abbrev pub type_of_entity : Pos → Entity → Judged TypeRef
 type_of_entity at (entity.TypeName t) = sound t
-type_of_entity at e = breaks 3 at
+type_of_entity at e = breaks rule.WrongKind at
 
 abbrev pub type_behind : Around → Ident → Ident → Entity → Judged TypeRef
 type_behind u m x (entity.Module n) = type_in (is_out n) u n x
-type_behind u m x e = breaks 3 m.pos
+type_behind u m x e = breaks rule.WrongKind m.pos
 
 -- a variable never fits here, of whatever procedure it is
 abbrev pub unless_variable_is : Around → Ident → Known → Entity → (Entity → Judged TypeRef) → Judged TypeRef
-unless_variable_is u x k (entity.Variable v t) f = breaks 3 x.pos
+unless_variable_is u x k (entity.Variable v t) f = breaks rule.WrongKind x.pos
 unless_variable_is u x k e f = entity_known u x.pos k.scope e ▷ f
 
 abbrev pub unless_variable : Around → Ident → Option Known → (Entity → Judged TypeRef) → Judged TypeRef
-unless_variable u x None f = breaks 2 x.pos
+unless_variable u x None f = breaks rule.NotDeclared x.pos
 unless_variable u x (Some k) f = unless_variable_is u x k k.what f
 
 abbrev pub type_by : Around → Option Ident → Ident → Judged TypeRef

@@ -1,5 +1,5 @@
 -- Operators: what they are applied to, and constants of them.
-use Rattle.std.specs.Prelude.{ℕ, Bool, true, false, not, ◌&&◌, ◌||◌, List, [], ◌∷◌, Option, Some, None, is_some, pos}
+use Rattle.std.specs.Prelude.{Bool, true, false, not, ◌&&◌, ◌||◌, List, [], ◌∷◌, Option, Some, None, is_some, pos}
 use Rattle.ob_tree.specs.declared.pos.Pos.{Pos}
 use Rattle.ob_tree.specs.declared.expr.Operator.{Operator}
 use Rattle.ob_tree.specs.declared.expr.Operator.TheVariants as op
@@ -38,11 +38,12 @@ use Rattle.ob_rules.specs.Constants.{fold_one, fold_two, fold_texts, fold_logica
 use Rattle.ob_rules.specs.declared.values.Place.{Place}
 use Rattle.ob_rules.specs.declared.values.Valued.{Valued}
 use Rattle.ob_rules.specs.declared.values.Valued.TheVariants as valued
+use Rattle.ob_rules.specs.declared.broken.Rule.TheVariants as rule
 use Rattle.ob_rules.specs.Values.{constant, computed, is, width as width_of, is_integer, text_of, is_chars, is_nil, points, signature, text_tree, type_in, tree, type, constant_in, place_in}
 
 -- rule 11: a constant expression leaves LONGINT or would trap
 abbrev pub folded : Pos → Option Value → Judged Valued
-folded at None = breaks 11 at
+folded at None = breaks rule.ConstantOutOfRange at
 folded at (Some v) = sound (constant v)
 
 abbrev pub one_of : Unary → Pos → Valued → Option Value → Judged Valued
@@ -70,7 +71,7 @@ texts r at a b = two_of (fold_texts r) at (constant_in a) (constant_in b) (compu
 -- RULE 21: OPERANDS THAT DO NOT FIT THE OPERATOR
 
 abbrev pub if_fit : {A : Type 0} → Option A → Pos → (A → Judged Valued) → Judged Valued
-if_fit None at f = breaks 21 at
+if_fit None at f = breaks rule.UnfitOperands at
 if_fit (Some x) at f = f x
 
 abbrev pub wider_of : Option Width → Option Width → Option Width
@@ -109,7 +110,7 @@ binary_of map op.And a b = None
 
 abbrev pub connected : Bool → Connective → Pos → Valued → Valued → Judged Valued
 connected true op at a b = logical op at a b
-connected false op at a b = breaks 21 at
+connected false op at a b = breaks rule.UnfitOperands at
 
 -- an operator between terms or factors
 abbrev pub combined : Map → Operator → Pos → Valued → Valued → Judged Valued
@@ -119,7 +120,7 @@ combined map op at a b = if_fit (binary_of map op a b) at (λ o. dyadic o at a b
 
 abbrev pub negated : Bool → Pos → Valued → Judged Valued
 negated true at x = monadic unary.Not at x
-negated false at x = breaks 21 at
+negated false at x = breaks rule.UnfitOperands at
 
 -- `~`
 abbrev pub opposite : Map → Pos → Valued → Judged Valued
@@ -132,10 +133,10 @@ only_value x = x
 
 abbrev pub signed_as : Sign → Option Width → Bool → Pos → Valued → Judged Valued
 signed_as sign.Plus (Some w) set at x = sound (only_value x)
-signed_as sign.Plus None set at x = breaks 21 at
+signed_as sign.Plus None set at x = breaks rule.UnfitOperands at
 signed_as sign.Minus (Some w) set at x = monadic (unary.Negate w) at x
 signed_as sign.Minus None true at x = monadic unary.Complement at x
-signed_as sign.Minus None false at x = breaks 21 at
+signed_as sign.Minus None false at x = breaks rule.UnfitOperands at
 
 abbrev pub signed : Map → Sign → Pos → Valued → Judged Valued
 signed map s at x = signed_as s (width_of map x) (is map basic.Set x) at x
@@ -199,11 +200,11 @@ compared_as map eq a b = chosen (
 abbrev pub compare_as : Option Compared → Bool → Comparison → Pos → Valued → Valued → Judged Valued
 compare_as (Some c) text r at a b = dyadic (binary.Compare r c) at a b
 compare_as None true r at a b = texts r at a b
-compare_as None false r at a b = breaks 21 at
+compare_as None false r at a b = breaks rule.UnfitOperands at
 
 abbrev pub contained : Bool → Pos → Valued → Valued → Judged Valued
 contained true at a b = dyadic binary.In at a b
-contained false at a b = breaks 21 at
+contained false at a b = breaks rule.UnfitOperands at
 
 abbrev pub compare : Map → Option Comparison → Pos → Valued → Valued → Judged Valued
 compare map (Some r) at a b = compare_as (compared_as map (is_equality r) a b) (is_text map a && is_text map b) r at a b
@@ -220,7 +221,7 @@ element_as at t v = record { at = at; node = record { inner = t }; constant = v 
 
 -- a constant element outside 0 to 31 is rule 11
 abbrev pub element_folded : Pos → TypedExpr → Option Value → Judged ElementOf
-element_folded at t None = breaks 11 at
+element_folded at t None = breaks rule.ConstantOutOfRange at
 element_folded at t v = sound (element_as at t v)
 
 abbrev pub single : Pos → TypedExpr → Option Value → Judged ElementOf
@@ -234,11 +235,11 @@ ranged at t a b = sound (element_as at t None)
 
 abbrev pub if_integer : Bool → Pos → Valued → Judged ElementOf
 if_integer true at a = single at (e.Unary unary.Element (tree a) at) (constant_in a)
-if_integer false at a = breaks 21 at
+if_integer false at a = breaks rule.UnfitOperands at
 
 abbrev pub if_integers : Bool → Pos → Valued → Valued → Judged ElementOf
 if_integers true at a b = ranged at (e.Binary binary.Range (tree a) (tree b) at) (constant_in a) (constant_in b)
-if_integers false at a b = breaks 21 at
+if_integers false at a b = breaks rule.UnfitOperands at
 
 -- an element that is no integer is rule 21 at its first symbol
 abbrev pub element : Map → Pos → Valued → Option Valued → Judged ElementOf

@@ -37,6 +37,7 @@ use Rattle.ob_rules.specs.Names.{Around, map_of, type_named}
 use Rattle.ob_rules.specs.declared.values.Place.{Place}
 use Rattle.ob_rules.specs.declared.values.Valued.{Valued}
 use Rattle.ob_rules.specs.declared.values.Valued.TheVariants as valued
+use Rattle.ob_rules.specs.declared.broken.Rule.TheVariants as rule
 use Rattle.ob_rules.specs.Values.{constant, computed, value_at, is, width as width_of, is_integer, is_chars, text_of, text_tree, type_in, tree, type, constant_in, place_in}
 use Rattle.ob_rules.specs.Operators.{monadic, dyadic, only_value, and_so}
 use Rattle.ob_rules.specs.Calls.{misplaced}
@@ -46,9 +47,9 @@ use Rattle.ob_rules.specs.Phrases.{Phrase}
 
 -- a parameter that is changed. Rule 26: a constant, a procedure or a read-only thing is changed
 abbrev pub changed_meant : Pos → Meant → Judged Valued
-changed_meant start (means.Place p) = unless p.read_only 26 start (value_at p)
+changed_meant start (means.Place p) = unless p.read_only rule.NotChangeable start (value_at p)
 changed_meant start (means.Call x) = sound (only_value x)
-changed_meant start m = breaks 26 start
+changed_meant start m = breaks rule.NotChangeable start
 
 abbrev pub changed_as : Around → Phrase → Option (Around → Judged Meant) → Judged Valued
 changed_as u p None = made only_value (p.value u)
@@ -59,7 +60,7 @@ changed u p = changed_as u p p.meant
 
 -- rule 10: an expression is not constant where one must be
 abbrev pub must_be_constant : Around → Phrase → Judged Valued
-must_be_constant u p = p.value u ▷ λ x. wants (is_some (constant_in x)) 10 p.start x
+must_be_constant u p = p.value u ▷ λ x. wants (is_some (constant_in x)) rule.NotConstant p.start x
 
 abbrev pub values : Around → List Phrase → List (Judged Valued)
 values u [] = []
@@ -228,12 +229,12 @@ fit map f at (x ∷ y ∷ z ∷ zs) = None
 
 -- rule 28: the parameters of a predeclared procedure do not fit
 abbrev pub if_fit : Pos → Option (Judged Meant) → Judged Meant
-if_fit at None = breaks 28 at
+if_fit at None = breaks rule.UnfitPredeclaredParameters at
 if_fit at (Some m) = m
 
 -- rule 27 names the call, and no misfit of its parameters
 abbrev pub call_fit : Around → Where → Predeclared → Pos → List Valued → Judged Meant
-call_fit u w f at xs = also (misplaced w (is_function f)) 27 at (if_fit at (fit (map_of u) f at xs))
+call_fit u w f at xs = also (misplaced w (is_function f)) rule.MisplacedCall at (if_fit at (fit (map_of u) f at xs))
 
 -- MAX AND MIN
 
@@ -257,16 +258,16 @@ type_parameter u p (Some q) = made (λ t. Some t) (type_named u q)
 
 abbrev pub extreme_of : Bool → Pos → Option TypeRef → Option Basic → Judged Meant
 extreme_of max at (Some t) (Some b) = names_type t (sound (means.Call (constant (extreme max b))))
-extreme_of max at t b = breaks 28 at
+extreme_of max at t b = breaks rule.UnfitPredeclaredParameters at
 
 abbrev pub basic_if : Map → Option TypeRef → Option Basic
 basic_if map None = None
 basic_if map (Some t) = basic_of map t
 
 abbrev pub extreme_call : Bool → Around → Where → Pos → List Phrase → Judged Meant
-extreme_call max u w at [] = also (misplaced w true) 27 at (breaks 28 at)
-extreme_call max u w at (p ∷ []) = type_parameter u p p.name ▷ λ t. also (misplaced w true) 27 at (extreme_of max at t (basic_if (map_of u) t))
-extreme_call max u w at (p ∷ ps) = type_parameter u p p.name ▷ λ t. each_sound (values u ps) ▷ λ xs. also (misplaced w true) 27 at (breaks 28 at)
+extreme_call max u w at [] = also (misplaced w true) rule.MisplacedCall at (breaks rule.UnfitPredeclaredParameters at)
+extreme_call max u w at (p ∷ []) = type_parameter u p p.name ▷ λ t. also (misplaced w true) rule.MisplacedCall at (extreme_of max at t (basic_if (map_of u) t))
+extreme_call max u w at (p ∷ ps) = type_parameter u p p.name ▷ λ t. each_sound (values u ps) ▷ λ xs. also (misplaced w true) rule.MisplacedCall at (breaks rule.UnfitPredeclaredParameters at)
 
 abbrev pub call_predeclared : Around → Where → Pos → Predeclared → List Phrase → Judged Meant
 call_predeclared u w at pre.Max ps = extreme_call true u w at ps

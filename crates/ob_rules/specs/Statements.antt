@@ -1,5 +1,5 @@
 -- Statements.
-use Rattle.std.specs.Prelude.{ℕ, Bool, true, false, not, ◌&&◌, ◌||◌, List, [], ◌∷◌, ◌++◌, map, Option, Some, None, is_some, ℤ, pos, negsuc, int_le, nat_lt, unsigned_abs}
+use Rattle.std.specs.Prelude.{Bool, true, false, not, ◌&&◌, ◌||◌, List, [], ◌∷◌, ◌++◌, map, Option, Some, None, is_some, ℤ, pos, negsuc, int_le, nat_lt, unsigned_abs}
 use Rattle.std.specs.List.{list_any}
 use Rattle.std.specs.Ordering.{int_eq}
 use Rattle.ob_tree.specs.declared.pos.Pos.{Pos}
@@ -51,6 +51,7 @@ use Rattle.ob_rules.specs.declared.meant.Selects.TheVariants as selecting
 use Rattle.ob_rules.specs.declared.values.Place.{Place}
 use Rattle.ob_rules.specs.declared.values.Valued.{Valued}
 use Rattle.ob_rules.specs.declared.values.Valued.TheVariants as valued
+use Rattle.ob_rules.specs.declared.broken.Rule.TheVariants as rule
 use Rattle.ob_rules.specs.Values.{constant, value_at, is, width as width_in, is_integer, fits, text_of, text_tree, tree, type, constant_in, place_in}
 use Rattle.ob_rules.specs.Phrases.{Phrase, Behind, Dot}
 use Rattle.ob_rules.specs.Calls.{call_variable}
@@ -78,8 +79,8 @@ in_turn_if (Some fs) u = made (λ x. Some x) (in_turn fs u)
 
 -- rule 26: a constant, a procedure, a call or a read-only thing is assigned to
 abbrev pub target : Pos → Meant → Judged Place
-target start (means.Place p) = unless p.read_only 26 start p
-target start m = breaks 26 start
+target start (means.Place p) = unless p.read_only rule.NotChangeable start p
+target start m = breaks rule.NotChangeable start
 
 abbrev pub assigned_as : Bool → Option QName → Bool → Assigned
 assigned_as true q array = assigned.Text
@@ -96,7 +97,7 @@ assigned_tree false x = (tree x)
 
 -- rule 31: a value is not assignable
 abbrev pub assigns : Map → Pos → Place → Valued → Judged (List TypedStmt)
-assigns map at p x = wants (fits map p.of x) 31 at (stmt.Assign p.designator.inner (assignment_of map p x) (assigned_tree (is_array map p.of) x) at ∷ [])
+assigns map at p x = wants (fits map p.of x) rule.NotAssignable at (stmt.Assign p.designator.inner (assignment_of map p x) (assigned_tree (is_array map p.of) x) at ∷ [])
 
 abbrev pub assignment : Around → Named → Pos → Phrase → Judged (List TypedStmt)
 assignment u n at x = both (meant_by Elsewhere n u ▷ target n.ident.pos) (x.value u) ▷ λ p. assigns (map_of u) at p.0 p.1
@@ -119,13 +120,13 @@ done m = silent
 
 -- rule 27: a designator of a variable, without a call, whose type is no procedure type
 abbrev pub place_called : Around → Pos → Place → Option Signature → Judged (List TypedStmt)
-place_called u start p None = breaks 27 start
+place_called u start p None = breaks rule.MisplacedCall start
 place_called u start p (Some s) = call_variable u AsStatement start p s [] ▷ call_value
 
 -- a statement that is a designator: a call, also without round brackets. Rule 3: the name of a constant
 abbrev pub called : Around → Named → Meant → Judged (List TypedStmt)
 called u n (means.Place p) = place_called u n.ident.pos p (signature_at (map_of u) p.of)
-called u n (means.Constant v) = breaks 3 (constant_at n.ident n.behind)
+called u n (means.Constant v) = breaks rule.WrongKind (constant_at n.ident n.behind)
 called u n (means.Call x) = call_value x
 called u n (means.Statement s) = one s.inner
 called u n m = call_meant u AsStatement n.ident.pos m [] ▷ done
@@ -134,7 +135,7 @@ called u n m = call_meant u AsStatement n.ident.pos m [] ▷ done
 
 -- rule 32: a condition is not BOOLEAN
 abbrev pub condition : Around → Phrase → Judged TypedExpr
-condition u x = x.value u ▷ λ v. wants (is (map_of u) basic.Boolean v) 32 x.start (tree v)
+condition u x = x.value u ▷ λ v. wants (is (map_of u) basic.Boolean v) rule.NotBoolean x.start (tree v)
 
 abbrev pub branch_of : Judged TypedExpr → Judged (List TypedStmt) → Judged TypedBranch
 branch_of c b = made (λ p. roll-TypedBranch (record { test = p.0; body = p.1 })) (both c b)
@@ -155,7 +156,7 @@ selects map x = selects_by (is map basic.Char x) (width_in map x)
 
 -- rule 33: a value is neither integer nor CHAR
 abbrev pub case_value : Map → Pos → Valued → Judged Valued
-case_value map start x = wants (is_some (selects map x)) 33 start x
+case_value map start x = wants (is_some (selects map x)) rule.UnfitCase start x
 
 abbrev pub within : Width → Width → Bool
 within width.LongInt w = true
@@ -182,7 +183,7 @@ overlaps low high l = int_le l.low high && int_le low l.high
 
 abbrev pub range_if : Bool → Pos → ℤ → ℤ → Judged Label
 range_if true at low high = sound (record { low = low; high = high })
-range_if false at low high = breaks 33 at
+range_if false at low high = breaks rule.UnfitCase at
 
 abbrev pub label_ranged : Pos → List Label → ℤ → ℤ → Judged Label
 label_ranged at before low high = range_if (int_le low high && not (list_any (overlaps low high) before)) at low high
@@ -190,7 +191,7 @@ label_ranged at before low high = range_if (int_le low high && not (list_any (ov
 -- rule 33: a label is of the other kind, or of an integer type that the value's type does not include, is an empty range, or occurs twice
 abbrev pub label_of : Pos → List Label → Option ℤ → Option ℤ → Judged Label
 label_of at before (Some low) (Some high) = label_ranged at before low high
-label_of at before low high = breaks 33 at
+label_of at before low high = breaks rule.UnfitCase at
 
 abbrev pub label_as : Option Selects → Pos → List Label → Value → Value → Judged Label
 label_as None at before low high = silent
@@ -260,22 +261,22 @@ case u at x cs otherwise = case_with u at (case_judged u x) cs otherwise
 
 -- rule 34: the variable is no integer variable
 abbrev pub integer_place : Map → Pos → Place → Judged Place
-integer_place map at p = wants (is_some (width_of (basic_of map p.of))) 34 at p
+integer_place map at p = wants (is_some (width_of (basic_of map p.of))) rule.UnfitFor at p
 
 -- rule 3: a type or a module there
 abbrev pub for_variable : Around → Pos → Ident → Entity → Judged Place
 for_variable u at x (entity.Variable v t) = variable_named u x.pos v t false ▷ λ p. integer_place (map_of u) at p
-for_variable u at x (entity.TypeName t) = breaks 3 x.pos
-for_variable u at x (entity.Module m) = breaks 3 x.pos
-for_variable u at x e = breaks 34 at
+for_variable u at x (entity.TypeName t) = breaks rule.WrongKind x.pos
+for_variable u at x (entity.Module m) = breaks rule.WrongKind x.pos
+for_variable u at x e = breaks rule.UnfitFor at
 
 -- rule 34: start or end is not assignable to it
 abbrev pub for_bound : Map → Pos → Place → Valued → Judged TypedExpr
-for_bound map at p x = wants (fits map p.of x) 34 at (tree x)
+for_bound map at p x = wants (fits map p.of x) rule.UnfitFor at (tree x)
 
 abbrev pub step_value : Pos → Value → Judged ℤ
-step_value at (literal.Int z) = unless (int_eq z (pos 0)) 34 at z
-step_value at v = breaks 34 at
+step_value at (literal.Int z) = unless (int_eq z (pos 0)) rule.UnfitFor at z
+step_value at v = breaks rule.UnfitFor at
 
 -- rule 34: the step is no integer, or 0; rule 10: it is not constant
 abbrev pub step_of : Around → Pos → Phrase → Judged ℤ
@@ -312,16 +313,16 @@ for u at x a b step body =
 
 -- rule 35: EXIT outside a LOOP of its procedure
 abbrev pub exit : Around → Pos → Judged (List TypedStmt)
-exit u at = wants u.in_loop 35 at (stmt.Exit ∷ [])
+exit u at = wants u.in_loop rule.MisplacedExit at (stmt.Exit ∷ [])
 
 -- rule 36: RETURN with or without a value against the heading, or with one that is not assignable
 abbrev pub returned : Map → Pos → Option TypeRef → Valued → Judged (List TypedStmt)
-returned map at None x = breaks 36 at
-returned map at (Some t) x = wants (fits map t x) 36 at (stmt.Return (Some (tree x)) ∷ [])
+returned map at None x = breaks rule.UnfitReturn at
+returned map at (Some t) x = wants (fits map t x) rule.UnfitReturn at (stmt.Return (Some (tree x)) ∷ [])
 
 abbrev pub return_none : Pos → Option TypeRef → Judged (List TypedStmt)
 return_none at None = one (stmt.Return None)
-return_none at (Some t) = breaks 36 at
+return_none at (Some t) = breaks rule.UnfitReturn at
 
 abbrev pub return_of : Around → Pos → Phrase → Judged (List TypedStmt)
 return_of u at x = x.value u ▷ returned (map_of u) at u.result
@@ -335,17 +336,17 @@ return u at (Some x) = return_of u at x
 -- rule 3: what stands before a dot is no module
 abbrev pub with_module : Around → Ident → Ident → Entity → Judged Meant
 with_module u m x (entity.Module n) = designates u InExpression m (Dot x.pos x ∷ [])
-with_module u m x e = breaks 3 m.pos
+with_module u m x e = breaks rule.WrongKind m.pos
 
 abbrev pub with_named : Around → Ident → Ident → Judged Meant
 with_named u m x = named u m ▷ with_module u m x
 
 abbrev pub with_qualified_by : Around → Ident → Ident → Entity → Judged Meant
-with_qualified_by u m x (entity.Variable v t) = breaks 3 m.pos
+with_qualified_by u m x (entity.Variable v t) = breaks rule.WrongKind m.pos
 with_qualified_by u m x e = with_named u m x
 
 abbrev pub with_qualified : Around → Ident → Ident → Option Known → Judged Meant
-with_qualified u m x None = breaks 2 m.pos
+with_qualified u m x None = breaks rule.NotDeclared m.pos
 with_qualified u m x (Some k) = with_qualified_by u m x k.what
 
 abbrev pub with_meant : Around → Option Ident → Ident → Judged Meant
@@ -354,12 +355,12 @@ with_meant u (Some m) x = with_qualified u m x (find_name u.known m.name)
 
 -- rule 37: the variable is neither a pointer variable nor a VAR record parameter
 abbrev pub with_place : Map → Pos → Meant → Judged Place
-with_place map at (means.Place p) = wants (is_pointer map p.of || p.var_record) 37 at p
-with_place map at m = breaks 37 at
+with_place map at (means.Place p) = wants (is_pointer map p.of || p.var_record) rule.UnfitWith at p
+with_place map at m = breaks rule.UnfitWith at
 
 -- rule 37: its type is no extension
 abbrev pub with_guard : Pos → Place → Option (Guarded × QName) → TypeRef → Judged (Place × (Guarded × QName))
-with_guard at p None t = breaks 37 at
+with_guard at p None t = breaks rule.UnfitWith at
 with_guard at p (Some g) t = sound (p, g)
 
 abbrev pub guard_test : Place → Guarded → QName → TypedExpr

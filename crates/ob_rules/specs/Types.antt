@@ -34,6 +34,7 @@ use Rattle.ob_rules.specs.declared.entity.Known.{Known}
 use Rattle.ob_rules.specs.declared.notes.Later.{Later}
 use Rattle.ob_rules.specs.declared.entity.Entity.TheVariants as entity
 use Rattle.ob_rules.specs.declared.notes.Later.TheVariants as later
+use Rattle.ob_rules.specs.declared.broken.Rule.TheVariants as rule
 use Rattle.ob_rules.specs.Judged.{Judged, Notes, sound, silent, breaks, also, wants, unless, both, each_sound, if_there, made, noted, joined, no_notes, broken_at, judge_later, ◌▷◌}
 use Rattle.ob_rules.specs.Shapes.{Map, Member, member, record_of, is_open, is_structured, is_pointer, passing_of}
 use Rattle.ob_rules.specs.Names.{is_among, is_declared, Around, map_of, in_unit, type_named, found_in_scope}
@@ -86,8 +87,8 @@ is_module_level u = nothing u.path
 -- rule 6: an export mark below module level, or `-` on what is neither variable nor field
 abbrev pub mark_of : Bool → Bool → Pos → Mark → Judged Mark
 mark_of level minus at mark.Hidden = sound mark.Hidden
-mark_of false minus at m = breaks 6 at
-mark_of true false at mark.ReadOnly = breaks 6 at
+mark_of false minus at m = breaks rule.MisplacedMark at
+mark_of true false at mark.ReadOnly = breaks rule.MisplacedMark at
 mark_of true minus at m = sound m
 
 abbrev pub marked : Around → Bool → IdentDef → Judged Mark
@@ -97,12 +98,12 @@ marked u minus d = mark_of (is_module_level u) minus d.mark_pos d.mark
 
 -- rule 13: an open array elsewhere than as pointer base or parameter type, or with open elements
 abbrev pub named_typing : Around → Pos → Bool → TypeRef → Judged Typing
-named_typing u at open_ok t = unless (not open_ok && is_open (map_of u) t) 13 at (record { of = t; made = [] })
+named_typing u at open_ok t = unless (not open_ok && is_open (map_of u) t) rule.MisplacedOpenArray at (record { of = t; made = [] })
 
 -- rule 12: an array length is not an integer of at least 1
 abbrev pub length_of : Pos → Value → Judged ℕ
 length_of at (literal.Int (pos (suc n))) = sound (suc n)
-length_of at v = breaks 12 at
+length_of at v = breaks rule.UnfitLength at
 
 abbrev pub array_length : Around → Phrase → Judged ℕ
 array_length u x = constant_value u x ▷ length_of x.start
@@ -115,7 +116,7 @@ fixed_array u name m (l ∷ ls) element =
 
 abbrev pub open_array : Around → List ℕ → Mark → Pos → Bool → Written → Judged Typing
 open_array u name m at open_ok element =
-    also (not open_ok || element.open_array) 13 at (element.typing u (element_name name) mark.Hidden element.open_array ▷ λ t. sound (typed_as u name (desc.OpenArray m t.of) t.made))
+    also (not open_ok || element.open_array) rule.MisplacedOpenArray at (element.typing u (element_name name) mark.Hidden element.open_array ▷ λ t. sound (typed_as u name (desc.OpenArray m t.of) t.made))
 
 abbrev pub array : Around → List ℕ → Mark → Pos → Bool → List Phrase → Written → Judged Typing
 array u name m at open_ok [] element = open_array u name m at open_ok element
@@ -133,7 +134,7 @@ first_of q = first_by q.qualifier q.ident
 
 -- rule 14: a record's base is not a record type
 abbrev pub base_of : Map → Pos → TypeRef → Judged TypeRef
-base_of map at t = wants (is_some (record_of map t)) 14 at t
+base_of map at t = wants (is_some (record_of map t)) rule.UnfitBase at t
 
 abbrev pub base_if : Around → Option Qualident → Judged (Option TypeRef)
 base_if u None = sound None
@@ -154,7 +155,7 @@ inherits b x = []
 -- rule 1: a field's name stands twice in the record, or is visible in one of its bases
 abbrev pub field_declared : Around → Option (Option TypeRef) → List (List ℕ) → IdentDef → TypeRef → Judged Field
 field_declared u base before d t =
-    judge_later (inherits base d.ident) (marked u true d ▷ λ m. unless (is_among d.ident.name before || is_some (member_in (map_of u) (record_in (map_of u) base) d.ident.name)) 1 d.ident.pos (record { name = d.ident.name; mark = m; place = 0; of = t }))
+    judge_later (inherits base d.ident) (marked u true d ▷ λ m. unless (is_among d.ident.name before || is_some (member_in (map_of u) (record_in (map_of u) base) d.ident.name)) rule.DeclaredTwice d.ident.pos (record { name = d.ident.name; mark = m; place = 0; of = t }))
 
 -- a field of a type that breaks a rule keeps its name
 abbrev pub field_if : Around → Option (Option TypeRef) → List (List ℕ) → IdentDef → Option Typing → Judged Field
@@ -213,7 +214,7 @@ pointer_to u name m t = typed_as u name (desc.Pointer m t.of) t.made
 abbrev pub base_judged : List ℕ → Bool → Pos → Bool → Bool → Typing → Judged Typing
 base_judged name inline at true pointer t = sound t
 base_judged name inline at false true t = judge_later (later.PointsTo name at t.of inline ∷ []) (sound t)
-base_judged name inline at false false t = breaks 15 at
+base_judged name inline at false false t = breaks rule.UnfitPointerBase at
 
 -- rule 15: a pointer's base is neither record nor array. Of a pointer to a pointer it is asked when all types of the sequence are known
 abbrev pub pointer_base : Around → List ℕ → Bool → Pos → Typing → Judged Typing
@@ -267,7 +268,7 @@ mode_of false = mode.Value
 
 abbrev pub twice_if : Option Known → Pos → Notes
 twice_if None at = no_notes
-twice_if (Some k) at = broken_at 1 at
+twice_if (Some k) at = broken_at rule.DeclaredTwice at
 
 -- rule 1: a name is declared twice in a scope
 abbrev pub new_name : Around → Ident → Notes
@@ -325,7 +326,7 @@ sections u name i (s ∷ ss) = section u (mode_of s.is_var) s.names (s.node.typi
 
 -- rule 17: a result type is a record or array
 abbrev pub result_fits : Around → Pos → TypeRef → Judged (Option TypeRef)
-result_fits u at t = unless (is_structured (map_of u) t) 17 at (Some t)
+result_fits u at t = unless (is_structured (map_of u) t) rule.StructuredResult at (Some t)
 
 abbrev pub result_of : Around → Option Qualident → Judged (Option TypeRef)
 result_of u None = sound None

@@ -10,7 +10,7 @@ mod notes;
 mod surroundings;
 mod values;
 
-pub use broken::{Broken, Predeclared, earlier};
+pub use broken::{Broken, Predeclared, Rule, earlier};
 pub use entity::{Bound, Coming, Entity, Known, Received};
 pub use meant::{Asked, Chosen, ElementOf, Meant, Selects, Where};
 pub use notes::{Later, Notebook};

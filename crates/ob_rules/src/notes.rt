@@ -5,7 +5,7 @@ ghost use Rattle.ob_rules.specs.declared.broken.Broken.{Broken as Mistake};
 ghost use Rattle.ob_rules.specs.Judged as spec;
 ghost use Rattle.ob_rules.specs.Books as books;
 
-use crate::broken::{Broken, earlier};
+use crate::broken::{Broken, Rule, earlier};
 use ob_tree::{Ident, List, ObjName, Pos, QName};
 use ob_types::TypeRef;
 use ob_types_trees::{DesignatorTree, DesignatorTrees};
@@ -66,7 +66,7 @@ impl Notebook {
 
     /// The rule is broken there.
     #[tactic(auto, using(crate::proofs::BookLaws::after_broken))]
-    pub fn breaks(&mut self, rule: u8, at: Pos)
+    pub fn breaks(&mut self, rule: Rule, at: Pos)
         ensures { self.new ≡ books.book_after self.old (spec.broken_at rule at) }
     {
         let broken = Some(Broken { rule, pos: at });
@@ -135,7 +135,7 @@ impl Notebook {
 impl Notebook {
     /// The rule is broken there, if it is so.
     #[tactic(auto, using(crate::proofs::BookLaws::after_none))]
-    pub fn breaks_if(&mut self, broken: bool, rule: u8, at: Pos)
+    pub fn breaks_if(&mut self, broken: bool, rule: Rule, at: Pos)
         ensures { self.new ≡ books.book_after self.old (spec.notes_if broken rule at) }
     {
         if broken {
@@ -145,7 +145,7 @@ impl Notebook {
 
     /// The part itself where the condition holds; else the rule is broken there.
     #[tactic(auto, using(crate::proofs::BookLaws::after_none))]
-    pub fn wants<A: Drop>(&mut self, holds: bool, rule: u8, at: Pos, part: A) -> Option<A>
+    pub fn wants<A: Drop>(&mut self, holds: bool, rule: Rule, at: Pos, part: A) -> Option<A>
         ensures { books.Says (spec.wants holds rule at part) result self.old self.new }
     {
         if holds {
@@ -157,7 +157,7 @@ impl Notebook {
 
     /// The part itself unless the rule is broken there.
     #[tactic(auto, using(crate::proofs::BookLaws::after_none))]
-    pub fn unless<A: Drop>(&mut self, broken: bool, rule: u8, at: Pos, part: A) -> Option<A>
+    pub fn unless<A: Drop>(&mut self, broken: bool, rule: Rule, at: Pos, part: A) -> Option<A>
         ensures { books.Says (spec.unless broken rule at part) result self.old self.new }
     {
         if broken {
@@ -169,7 +169,7 @@ impl Notebook {
 
     /// What there is; where there is nothing, the rule is broken there.
     #[tactic(auto, using(crate::proofs::BookLaws::after_none))]
-    pub fn found_or<A: Drop>(&mut self, rule: u8, at: Pos, part: Option<A>) -> Option<A>
+    pub fn found_or<A: Drop>(&mut self, rule: Rule, at: Pos, part: Option<A>) -> Option<A>
         ensures { books.Says (spec.found_or rule at part) result self.old self.new }
     {
         if part.is_none() {

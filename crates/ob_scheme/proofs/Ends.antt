@@ -1,5 +1,7 @@
 -- Where the code ends: as many lines behind its start as it has.
 use Rattle.std.proofs.Common.{◌≡◌, ℕ, suc, ◌+◌, List, [], ◌∷◌, ◌++◌, length, arith, length-append, Option, Some, None}
+use Rattle.ob_trap.specs.declared.trap.Trap.{Trap}
+use Rattle.ob_trap.specs.declared.trap.Trap.TheVariants as trap
 use Rattle.ob_tree.specs.declared.pos.Pos.{Pos}
 use Rattle.ob_types.specs.declared.typed.Connective.TheVariants as connective
 use Rattle.ob_types.specs.declared.typed.Label.{Label}
@@ -105,8 +107,8 @@ module _ (c : Context) where
         let end = end_else c otherwise p2 in
         let a = expr_code c want.Value e (suc pc) in
         let b = cases_code c t cases p1 (suc t) x end in
-        let d = else_code c 4 at otherwise p2 (next_cases c cases (suc t)) x in
-        omega (arith, expr_ends want.Value e (suc pc), cases_end t cases p1 (suc t) x end, else_ends 4 at otherwise p2 (next_cases c cases (suc t)) x, length-append a (bare op.Store ∷ (b ++ d)), length-append b d)
+        let d = else_code c trap.NoCase at otherwise p2 (next_cases c cases (suc t)) x in
+        omega (arith, expr_ends want.Value e (suc pc), cases_end t cases p1 (suc t) x end, else_ends trap.NoCase at otherwise p2 (next_cases c cases (suc t)) x, length-append a (bare op.Store ∷ (b ++ d)), length-append b d)
     stmt_ends (While e body at) pc t x =
         let p1 = end_expr c want.Value e pc in
         let p2 = end_stmts c body (suc p1) in
@@ -140,7 +142,7 @@ module _ (c : Context) where
     stmt_ends (With branches otherwise at) pc t x =
         let p1 = end_branches c branches pc in
         let end = end_else c otherwise p1 in
-        omega (arith, branches_end branches pc t x end, else_ends 5 at otherwise p1 (next_branches c branches t) x, length-append (branches_code c branches pc t x end) (else_code c 5 at otherwise p1 (next_branches c branches t) x))
+        omega (arith, branches_end branches pc t x end, else_ends trap.NoMatch at otherwise p1 (next_branches c branches t) x, length-append (branches_code c branches pc t x end) (else_code c trap.NoMatch at otherwise p1 (next_branches c branches t) x))
 
     pub stmts_end : (s : Stmts) (pc t x : ℕ) → end_stmts c s pc ≡ pc + length (stmts_code c s pc t x)
     stmts_end Nothing pc t x = omega arith
@@ -167,6 +169,6 @@ module _ (c : Context) where
         let r = cases_code c k rest (suc p2) (next_stmts c body t) x end in
         omega (arith, labels_end k labels pc (suc p1), stmts_end body (suc p1) t x, cases_end k rest (suc p2) (next_stmts c body t) x end, length-append a (jump (suc p2) ∷ (b ++ (jump end ∷ r))), length-append b (jump end ∷ r))
 
-    pub else_ends : (kind : ℕ) (at : Pos) (o : Otherwise) (pc t x : ℕ) → end_else c o pc ≡ pc + length (else_code c kind at o pc t x)
+    pub else_ends : (kind : Trap) (at : Pos) (o : Otherwise) (pc t x : ℕ) → end_else c o pc ≡ pc + length (else_code c kind at o pc t x)
     else_ends kind at NoElse pc t x = omega arith
     else_ends kind at (Else body) pc t x = stmts_end body pc t x

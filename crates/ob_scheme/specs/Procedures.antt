@@ -1,5 +1,7 @@
 -- The code of a module: its body, and behind it its procedures in their order.
 use Rattle.std.specs.Prelude.{ℕ, suc, List, [], ◌∷◌, ◌++◌, map, Option, Some, None, Bool, true, false}
+use Rattle.ob_trap.specs.declared.trap.Trap.TheVariants as trap
+use Rattle.ob_trap.specs.Numbers.{trap_number}
 use Rattle.ob_tree.specs.declared.pos.Pos.{Pos}
 use Rattle.ob_tree.specs.declared.names.QName.{QName}
 use Rattle.ob_tree.specs.declared.ident.Mark.TheVariants as mark
@@ -31,7 +33,7 @@ has_result (Some t) = true
 -- a function that comes to its end traps
 abbrev pub closing : Option TypeRef → Pos → Line
 closing None at = bare op.Ret
-closing (Some t) at = placed_two op.Trap (count 6) (count 0) at
+closing (Some t) at = placed_two op.Trap (count (trap_number trap.NoReturn)) (count 0) at
 
 module _ (types : QName → Option Desc) (m : Module) where
   abbrev pub within : Procedure → Context

@@ -1,6 +1,9 @@
 -- The code of statements: where it ends, and what it is, of a tree, the index at which its code begins, the next word t for FOR and
 -- CASE, and the index behind the innermost LOOP, to which EXIT jumps.
 use Rattle.std.specs.Prelude.{ℕ, suc, List, [], ◌∷◌, ◌++◌, length, ℤ, pos, negsuc, Option, Some, None, Bool, true, false}
+use Rattle.ob_trap.specs.declared.trap.Trap.{Trap}
+use Rattle.ob_trap.specs.declared.trap.Trap.TheVariants as trap
+use Rattle.ob_trap.specs.Numbers.{trap_number}
 use Rattle.ob_tree.specs.declared.pos.Pos.{Pos}
 use Rattle.ob_tree.specs.declared.names.QName.{QName}
 use Rattle.ob_types.specs.declared.types.TypeRef.TheVariants as ref
@@ -216,14 +219,14 @@ module _ (c : Context) where
     stmt_code (New d what at) pc t x = desig_code c want.Place d pc ++ new_line what at ∷ []
     stmt_code (NewOpenArray d element n at) pc t x = desig_code c want.Place d pc ++ (expr_code c want.Value n (end_desig c want.Place d pc) ++ placed op.NewO (count (words c element)) at ∷ [])
     stmt_code (Assert e number at) pc t x = expr_code c want.Value e pc ++ placed op.Assert (Number number) at ∷ []
-    stmt_code (Halt number at) pc t x = placed_two op.Trap (count 11) (Number number) at ∷ []
+    stmt_code (Halt number at) pc t x = placed_two op.Trap (count (trap_number trap.Halted)) (Number number) at ∷ []
     stmt_code (If branches otherwise) pc t x =
         let p1 = end_branches branches pc in
         branches_code branches pc t x (end_stmts otherwise p1) ++ stmts_code otherwise p1 (next_branches branches t) x
     stmt_code (Case e cases otherwise at) pc t x =
         let p1 = suc (end_expr c want.Value e (suc pc)) in
         let p2 = end_cases cases p1 in
-        plain op.Local (count t) ∷ (expr_code c want.Value e (suc pc) ++ (bare op.Store ∷ (cases_code t cases p1 (suc t) x (end_else otherwise p2) ++ else_code 4 at otherwise p2 (next_cases cases (suc t)) x)))
+        plain op.Local (count t) ∷ (expr_code c want.Value e (suc pc) ++ (bare op.Store ∷ (cases_code t cases p1 (suc t) x (end_else otherwise p2) ++ else_code trap.NoCase at otherwise p2 (next_cases cases (suc t)) x)))
     stmt_code (While e body at) pc t x =
         let p1 = end_expr c want.Value e pc in
         let p2 = end_stmts body (suc p1) in
@@ -247,7 +250,7 @@ module _ (c : Context) where
     stmt_code (Return e) pc t x = result_code e pc
     stmt_code (With branches otherwise at) pc t x =
         let p1 = end_branches branches pc in
-        branches_code branches pc t x (end_else otherwise p1) ++ else_code 5 at otherwise p1 (next_branches branches t) x
+        branches_code branches pc t x (end_else otherwise p1) ++ else_code trap.NoMatch at otherwise p1 (next_branches branches t) x
 
     pub stmts_code : Stmts → (pc t x : ℕ) → List Line
     stmts_code Nothing pc t x = []
@@ -270,6 +273,6 @@ module _ (c : Context) where
         labels_code k labels pc (suc p1) ++ (jump (suc p2) ∷ (stmts_code body (suc p1) t x ++ (jump end ∷ cases_code k rest (suc p2) (next_stmts body t) x end)))
 
     -- what stands behind ELSE, or the trap
-    pub else_code : ℕ → Pos → Otherwise → (pc t x : ℕ) → List Line
-    else_code kind at NoElse pc t x = placed op.Trap (count kind) at ∷ []
+    pub else_code : Trap → Pos → Otherwise → (pc t x : ℕ) → List Line
+    else_code kind at NoElse pc t x = placed op.Trap (count (trap_number kind)) at ∷ []
     else_code kind at (Else body) pc t x = stmts_code body pc t x

@@ -1,6 +1,8 @@
 -- What the lines print beside the texts of compare, check and show.
 use Rattle.std.specs.Prelude.{ℕ, List, ◌++◌, Bool, true, false, ◌||◌, ◌==◌, if◌then◌else◌, ℤ, codes, decimal, []}
 use Rattle.std.specs.Fmt.{signed_decimal}
+use Rattle.ob_trap.specs.declared.trap.Trap.{Trap}
+use Rattle.ob_trap.specs.Numbers.{trap_number, tells_number}
 use Rattle.ob_tree.specs.declared.pos.Pos.{Pos}
 use Rattle.ob_tree.specs.declared.names.QName.{QName}
 use Rattle.ob_machine.specs.declared.outcome.Outcome.{Outcome}
@@ -11,6 +13,7 @@ use Rattle.ob_scan.specs.declared.fault.ScanFault.TheVariants as scanning
 use Rattle.ob_parse_grammar.specs.declared.fault.ParseFault.TheVariants as parsing
 use Rattle.ob_parse_grammar.specs.TextReading.{NoModule, Scan, Parse}
 use Rattle.ob_rules.specs.declared.broken.Broken.{Broken}
+use Rattle.ob_rules.specs.Judged.{number_of}
 use Rattle.ob_env.specs.Stale.{Found, StaleUse, AsWanted, IsAbsent, IsChanged}
 use Rattle.ob_env_walk.specs.Walk.{Walked, Left, NoInterface, Damaged, Cycle, TooMany}
 use Rattle.ob_compile_model.specs.Compiling as compile
@@ -71,7 +74,7 @@ unmet_text u IsAbsent = of_object u.wanted.object (codes " absent for " ++ (u.cl
 unmet_text u (IsChanged k) = of_object u.wanted.object (codes " changed for " ++ (u.client ++ codes "\n"))
 
 abbrev pub rule_text : Broken → List ℕ
-rule_text b = codes "rule " ++ (decimal b.rule ++ (codes " at " ++ place b.pos))
+rule_text b = codes "rule " ++ (decimal (number_of b.rule) ++ (codes " at " ++ place b.pos))
 
 abbrev pub compile_reason : {K : Type 0} → compile.Refusal K → List ℕ
 compile_reason compile.NoSource = codes "no source\n"
@@ -142,13 +145,13 @@ load_answered name (refusal.NoCommand m command) = refused name (codes "no comma
 abbrev pub at_place : List ℕ → Pos → List ℕ
 at_place name at = codes " at " ++ (name ++ (codes " " ++ (decimal at.line ++ (codes ":" ++ (decimal at.col ++ codes "\n")))))
 
--- the number of an ASSERT or a HALT, and what follows
-abbrev pub with_number : ℕ → ℤ → List ℕ → List ℕ
-with_number kind number more = if (kind == 10) || (kind == 11) then codes " " ++ (signed_decimal number ++ more) else more
+-- the number that an ASSERT or a HALT tells, and what follows
+abbrev pub with_number : Trap → ℤ → List ℕ → List ℕ
+with_number kind number more = if tells_number kind then codes " " ++ (signed_decimal number ++ more) else more
 
 abbrev pub report : Outcome → List ℕ
 report outcome.Done = []
-report (outcome.Trap kind number name at) = codes "\ntrap " ++ (decimal kind ++ with_number kind number (at_place name at))
+report (outcome.Trap kind number name at) = codes "\ntrap " ++ (decimal (trap_number kind) ++ with_number kind number (at_place name at))
 report (outcome.TurnsSpent name at) = codes "\nturns spent" ++ at_place name at
 report (outcome.Illegal name at) = codes "\nillegal at " ++ (name ++ (codes " " ++ (decimal at ++ codes "\n")))
 report outcome.SinkFault = []

@@ -49,7 +49,7 @@ fn refuse_rule<O: Sink>(name: &[u8], broken: Broken, out: &mut O) -> Result<bool
         name,
         b": ",
         b"rule ",
-        rule.format(broken.rule).as_bytes(),
+        rule.format(broken.rule.number()).as_bytes(),
         b" at ",
         line.format(broken.pos.line).as_bytes(),
         b":",

@@ -9,6 +9,7 @@ use crate::stop::Stop;
 use itoa::Buffer;
 use ob_io::Sink;
 use ob_machine::Outcome;
+use ob_trap::Trap;
 use ob_tree::Pos;
 
 // Prints where a run was stopped.
@@ -45,7 +46,7 @@ fn put_index<O: Sink>(text: &[u8], name: &[u8], at: u32, out: &mut O) -> Result<
 
 // Prints where a run trapped.
 fn put_trap<O: Sink>(
-    kind: u8,
+    kind: Trap,
     number: i32,
     name: &[u8],
     pos: Pos,
@@ -59,10 +60,10 @@ fn put_trap<O: Sink>(
     let mut numbers = Buffer::new();
     let mut line = Buffer::new();
     let mut col = Buffer::new();
-    if kind == 10 || kind == 11 {
+    if kind.tells_number() {
         let texts = [
             b"\ntrap ",
-            kinds.format(kind).as_bytes(),
+            kinds.format(kind.number()).as_bytes(),
             b" ",
             numbers.format(number).as_bytes(),
             b" at ",
@@ -77,7 +78,7 @@ fn put_trap<O: Sink>(
     }
     let texts = [
         b"\ntrap ",
-        kinds.format(kind).as_bytes(),
+        kinds.format(kind.number()).as_bytes(),
         b" at ",
         name,
         b" ",

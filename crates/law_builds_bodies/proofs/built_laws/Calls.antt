@@ -22,6 +22,7 @@ use Rattle.ob_rules.specs.declared.meant.Meant.TheVariants as means
 use Rattle.ob_rules.specs.declared.meant.Where.{Where}
 use Rattle.ob_rules.specs.declared.values.Place.{Place}
 use Rattle.ob_rules.specs.declared.values.Valued.{Valued}
+use Rattle.ob_rules.specs.declared.broken.Rule.TheVariants as rule
 use Rattle.ob_rules.specs.Judged.{Judged, sound, breaks, found_or, ◌▷◌}
 use Rattle.ob_rules.specs.Shapes.{Map, Member, AField, AMethod, member, pointed, record_of, base_record, signature_at}
 use Rattle.ob_rules.specs.Names.{Around, map_of, named, is_out, out_procedure, exported, type_named}
@@ -90,7 +91,7 @@ super_quiet map at c None = tt
 super_quiet map at c (Some r) = super_quiet_if (same_variable c.receiver.root r.variable && not c.receiver.selected) map at c r.owner
 
 guard_quiet : (map : Map) (at : Pos) (p : Place) (t : TypeRef) → Has IsQuiet (guard map at p t)
-guard_quiet map at p t = any_then IsQuiet (found_or 23 at (guard_of map p t)) (λ g. sound (means.Place (guarded_by p g t at true))) (λ g. tt)
+guard_quiet map at p t = any_then IsQuiet (found_or rule.UnfitTypeTest at (guard_of map p t)) (λ g. sound (means.Place (guarded_by p g t at true))) (λ g. tt)
 
 round_quiet : (u : Around) (w : Where) (start at : Pos) (p : Place) (ps : List Phrase) (q : Option Qualident) (s : Option Signature) → Has IsQuiet (place_round u w start at p ps q s)
 round_quiet u w start at p ps (Some q) s = any_then IsQuiet (type_named u q) (guard (map_of u) at p) (λ t. guard_quiet (map_of u) at p t)
@@ -99,7 +100,7 @@ round_quiet u w start at p ps None None = tt
 
 other_quiet : (u : Around) (w : Where) (start at : Pos) (m : Meant) (ps : List Phrase) (q : Option Qualident) (a b c : Bool) → Has IsQuiet (other_round u w start at m ps q a b c)
 other_quiet u w start at m ps q true b c = call_quiet u w start m ps
-other_quiet u w start at m ps (Some q) false true c = any_then IsQuiet (type_named u q) (λ t. breaks 23 at) (λ t. tt)
+other_quiet u w start at m ps (Some q) false true c = any_then IsQuiet (type_named u q) (λ t. breaks rule.UnfitTypeTest at) (λ t. tt)
 other_quiet u w start at m ps (Some q) false false c = tt
 other_quiet u w start at m ps None false b true = call_quiet u w start m ps
 other_quiet u w start at m ps None false b false = tt

@@ -24,6 +24,7 @@ use Rattle.ob_rules.specs.declared.meant.Meant.TheVariants as means
 use Rattle.ob_rules.specs.declared.meant.Where.{Where}
 use Rattle.ob_rules.specs.declared.values.Place.{Place}
 use Rattle.ob_rules.specs.declared.values.Valued.{Valued}
+use Rattle.ob_rules.specs.declared.broken.Rule.TheVariants as rule
 use Rattle.ob_rules.specs.Judged.{Judged, sound, breaks, also, each_sound, ◌▷◌}
 use Rattle.ob_rules.specs.Shapes.{Map, array_of, pointed, is_held, record_of}
 use Rattle.ob_rules.specs.Names.{Around, map_of}
@@ -156,7 +157,7 @@ fit_quiet at None h = tt
 fit_quiet at (Some m) h = h
 
 call_fits : (u : Around) (w : Where) (f : Predeclared) (at : Pos) (xs : List Valued) → Has IsQuiet (call_fit u w f at xs)
-call_fits u w f at xs = also_has IsQuiet (misplaced w (is_function f)) 27 at (if_fit at (fit (map_of u) f at xs)) (fit_quiet at (fit (map_of u) f at xs) (all_fit (map_of u) f at xs))
+call_fits u w f at xs = also_has IsQuiet (misplaced w (is_function f)) rule.MisplacedCall at (if_fit at (fit (map_of u) f at xs)) (fit_quiet at (fit (map_of u) f at xs) (all_fit (map_of u) f at xs))
 
 extreme_quiet : (max : Bool) (at : Pos) (t : Option TypeRef) (b : Option Basic) → Has IsQuiet (extreme_of max at t b)
 extreme_quiet max at (Some t) (Some b) = tt
@@ -164,11 +165,11 @@ extreme_quiet max at (Some t) None = tt
 extreme_quiet max at None b = tt
 
 extremes_quiet : (max : Bool) (u : Around) (w : Where) (at : Pos) (ps : List Phrase) → Has IsQuiet (extreme_call max u w at ps)
-extremes_quiet max u w at [] = also_has IsQuiet (misplaced w true) 27 at (breaks 28 at) tt
-extremes_quiet max u w at (p ∷ []) = any_then IsQuiet (type_parameter u p p.name) (λ t. also (misplaced w true) 27 at (extreme_of max at t (basic_if (map_of u) t))) (λ t. also_has IsQuiet (misplaced w true) 27 at (extreme_of max at t (basic_if (map_of u) t)) (extreme_quiet max at t (basic_if (map_of u) t)))
+extremes_quiet max u w at [] = also_has IsQuiet (misplaced w true) rule.MisplacedCall at (breaks rule.UnfitPredeclaredParameters at) tt
+extremes_quiet max u w at (p ∷ []) = any_then IsQuiet (type_parameter u p p.name) (λ t. also (misplaced w true) rule.MisplacedCall at (extreme_of max at t (basic_if (map_of u) t))) (λ t. also_has IsQuiet (misplaced w true) rule.MisplacedCall at (extreme_of max at t (basic_if (map_of u) t)) (extreme_quiet max at t (basic_if (map_of u) t)))
 extremes_quiet max u w at (p ∷ q ∷ ps) =
-    any_then IsQuiet (type_parameter u p p.name) (λ t. each_sound (values u (q ∷ ps)) ▷ λ xs. also (misplaced w true) 27 at (breaks 28 at))
-    (λ t. any_then IsQuiet (each_sound (values u (q ∷ ps))) (λ xs. also (misplaced w true) 27 at (breaks 28 at)) (λ xs. also_has IsQuiet (misplaced w true) 27 at (breaks 28 at) tt))
+    any_then IsQuiet (type_parameter u p p.name) (λ t. each_sound (values u (q ∷ ps)) ▷ λ xs. also (misplaced w true) rule.MisplacedCall at (breaks rule.UnfitPredeclaredParameters at))
+    (λ t. any_then IsQuiet (each_sound (values u (q ∷ ps))) (λ xs. also (misplaced w true) rule.MisplacedCall at (breaks rule.UnfitPredeclaredParameters at)) (λ xs. also_has IsQuiet (misplaced w true) rule.MisplacedCall at (breaks rule.UnfitPredeclaredParameters at) tt))
 
 pub predeclared_quiet : (u : Around) (w : Where) (at : Pos) (f : Predeclared) (ps : List Phrase) → Has IsQuiet (call_predeclared u w at f ps)
 predeclared_quiet u w at pre.Max ps = extremes_quiet true u w at ps

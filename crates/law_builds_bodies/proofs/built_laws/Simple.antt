@@ -1,5 +1,5 @@
 -- Statements without others inside have no places of FOR and CASE.
-use Rattle.std.proofs.Common.{◌≡◌, refl, sym, ap, ◌∙◌, ℕ, Bool, true, false, List, [], ◌∷◌, ◌++◌, Option, Some, None, append_assoc}
+use Rattle.std.proofs.Common.{◌≡◌, refl, sym, ap, ◌∙◌, Bool, true, false, List, [], ◌∷◌, ◌++◌, Option, Some, None, append_assoc}
 use Rattle.std.specs.Option.{option_map}
 use Rattle.ob_tree.specs.declared.pos.Pos.{Pos}
 use Rattle.ob_types.specs.declared.types.Signature.{Signature}
@@ -16,6 +16,8 @@ use Rattle.ob_rules.specs.declared.meant.Meant.TheVariants as means
 use Rattle.ob_rules.specs.declared.meant.Where.TheVariants.{AsStatement, Elsewhere}
 use Rattle.ob_rules.specs.declared.values.Place.{Place}
 use Rattle.ob_rules.specs.declared.values.Valued.{Valued}
+use Rattle.ob_rules.specs.declared.broken.Rule.{Rule}
+use Rattle.ob_rules.specs.declared.broken.Rule.TheVariants as rule
 use Rattle.ob_rules.specs.Judged.{wants, both, ◌▷◌}
 use Rattle.ob_rules.specs.Shapes.{Map, is_array, signature_at}
 use Rattle.ob_rules.specs.Names.{Around, map_of}
@@ -83,21 +85,21 @@ called_has u n (means.Predeclared f) h = then_has IsQuiet (Keeps []) (call_meant
 pub call_statement_has : (n : Named) (u : Around) → Has (Keeps []) (call_statement n u)
 call_statement_has n u = then_has IsQuiet (Keeps []) (meant_by AsStatement n u) (called u n) (meant_quiet u AsStatement n) (λ m h. called_has u n m h)
 
-wants_has : {A : Type 0} (P : A → Type 0) (b : Bool) (n : ℕ) (at : Pos) (x : A) → P x → Has P (wants b n at x)
-wants_has P true n at x h = h
-wants_has P false n at x h = tt
+wants_has : {A : Type 0} (P : A → Type 0) (b : Bool) (which : Rule) (at : Pos) (x : A) → P x → Has P (wants b which at x)
+wants_has P true which at x h = h
+wants_has P false which at x h = tt
 
 assigns_has : (map_ : Map) (at : Pos) (p : Place) (x : Valued) → Has (Keeps []) (assigns map_ at p x)
 assigns_has map_ at p x =
     let how = assignment_of map_ p x in
     let y = assigned_tree (is_array map_ p.of) x in
-    wants_has (Keeps []) (fits map_ p.of x) 31 at (stmt.Assign p.designator.inner how y at ∷ []) (one_keeps [] (stmt.Assign p.designator.inner how y at) (syntax.Assign (designator_view p.designator.inner) how (expr_view y) at) (view_assign p.designator.inner how y at) refl)
+    wants_has (Keeps []) (fits map_ p.of x) rule.NotAssignable at (stmt.Assign p.designator.inner how y at ∷ []) (one_keeps [] (stmt.Assign p.designator.inner how y at) (syntax.Assign (designator_view p.designator.inner) how (expr_view y) at) (view_assign p.designator.inner how y at) refl)
 
 pub assignment_has : (u : Around) (n : Named) (at : Pos) (x : Phrase) → Has (Keeps []) (assignment u n at x)
 assignment_has u n at x = any_then (Keeps []) (both (meant_by Elsewhere n u ▷ target n.ident.pos) (x.value u)) (λ p. assigns (map_of u) at p.0 p.1) (λ p. assigns_has (map_of u) at p.0 p.1)
 
 pub exit_has : (u : Around) (at : Pos) → Has (Keeps []) (exit u at)
-exit_has u at = wants_has (Keeps []) u.in_loop 35 at (stmt.Exit ∷ []) (one_keeps [] stmt.Exit syntax.Exit view_exit refl)
+exit_has u at = wants_has (Keeps []) u.in_loop rule.MisplacedExit at (stmt.Exit ∷ []) (one_keeps [] stmt.Exit syntax.Exit view_exit refl)
 
 returns_keep : (x : Option TypedExpr) → Keeps [] (stmt.Return x ∷ [])
 returns_keep x = one_keeps [] (stmt.Return x) (syntax.Return (option_map expr_view x)) (view_return x) refl
@@ -108,7 +110,7 @@ return_none_has at (Some t) = tt
 
 returned_has : (map_ : Map) (at : Pos) (o : Option TypeRef) (x : Valued) → Has (Keeps []) (returned map_ at o x)
 returned_has map_ at None x = tt
-returned_has map_ at (Some t) x = wants_has (Keeps []) (fits map_ t x) 36 at (stmt.Return (Some (tree x)) ∷ []) (returns_keep (Some (tree x)))
+returned_has map_ at (Some t) x = wants_has (Keeps []) (fits map_ t x) rule.UnfitReturn at (stmt.Return (Some (tree x)) ∷ []) (returns_keep (Some (tree x)))
 
 pub return_has : (u : Around) (at : Pos) (o : Option Phrase) → Has (Keeps []) (return u at o)
 return_has u at None = return_none_has at u.result

@@ -21,6 +21,7 @@ use Rattle.ob_types.specs.declared.typed.TypedType.{TypedType}
 use Rattle.ob_types.specs.declared.typed.TypedParameter.{TypedParameter}
 use Rattle.ob_types.specs.Tests.{target, pointer_of}
 use Rattle.ob_rules.specs.declared.entity.Known.{Known}
+use Rattle.ob_rules.specs.declared.broken.Rule.TheVariants as rule
 use Rattle.ob_rules.specs.Judged.{Judged, if_sound, paired, sound, both, made, noted, unless, ◌▷◌}
 use Rattle.ob_rules.specs.Shapes.{Map, shape, record_at, record_of, record_if, pointed, pointed_record, array_at, open_at, is_structured, by_value, by_var, passing_of}
 use Rattle.ob_rules.specs.Names.{Around, map_of, type_named, is_out}
@@ -200,7 +201,7 @@ module _ (unit : List ℕ) (shown : QName → Option Desc) (out : is_out unit �
   fits : (P : TypeRef → Type 0) (u : Around) (at : Pos) (t : TypeRef) → (is_structured (map_of u) t ≡ false → P t) → Has (IfThere P) (result_fits u at t)
   fits P u at t h = by (is_structured (map_of u) t) refl
     where
-      by : (b : Bool) → is_structured (map_of u) t ≡ b → Has (IfThere P) (unless b 17 at (Some t))
+      by : (b : Bool) → is_structured (map_of u) t ≡ b → Has (IfThere P) (unless b rule.StructuredResult at (Some t))
       by true e = tt
       by false e = h e
 

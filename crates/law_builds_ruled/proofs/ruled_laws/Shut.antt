@@ -17,6 +17,8 @@ use Rattle.ob_types.specs.declared.typed.TypedType.{TypedType}
 use Rattle.ob_types.specs.Tests.{target_of, follow, target, shape_at}
 use Rattle.ob_types.specs.Relations.{is_alias}
 use Rattle.ob_types.specs.Relations as relations
+use Rattle.ob_rules.specs.declared.broken.Rule.TheVariants as rule
+use Rattle.ob_rules.specs.declared.broken.Rule.{Rule}
 use Rattle.ob_rules.specs.Judged.{Judged, sound, both, made, noted, unless, also, each_sound, ◌▷◌}
 use Rattle.ob_rules.specs.Shapes.{Map, same_name, open_at, is_open, is_structured, is_pointer}
 use Rattle.ob_rules.specs.Names.{Around, in_unit, own_desc, out_string, type_desc, map_of, type_named}
@@ -88,18 +90,18 @@ made_shut u open_ok name d more a o h = record { made = (a, h); shut = λ e. ope
 
 -- ---- names and arrays
 
-unless_shut : {A : Type 0} (P : A → Type 0) (b : Bool) (rule : ℕ) (at : Pos) (x : A) → (b ≡ false → P x) → Has P (unless b rule at x)
-unless_shut P true rule at x h = tt
-unless_shut P false rule at x h = h refl
+unless_shut : {A : Type 0} (P : A → Type 0) (b : Bool) (which : Rule) (at : Pos) (x : A) → (b ≡ false → P x) → Has P (unless b which at x)
+unless_shut P true which at x h = tt
+unless_shut P false which at x h = h refl
 
-also_shut : {A : Type 0} (P : A → Type 0) (b : Bool) (rule : ℕ) (at : Pos) (j : Judged A) → (b ≡ false → Has P j) → Has P (also b rule at j)
-also_shut P true rule at j h = tt
-also_shut P false rule at j h = h refl
+also_shut : {A : Type 0} (P : A → Type 0) (b : Bool) (which : Rule) (at : Pos) (j : Judged A) → (b ≡ false → Has P j) → Has P (also b which at j)
+also_shut P true which at j h = tt
+also_shut P false which at j h = h refl
 
 pub name_good : (q : Qualident) (u : Around) (open_ok : Bool) → Has (TypingShut u open_ok) (type_named u q ▷ named_typing u (first_of q) open_ok)
 name_good q u open_ok =
     any_then (TypingShut u open_ok) (type_named u q) (named_typing u (first_of q) open_ok)
-    (λ t. unless_shut (TypingShut u open_ok) (not open_ok && is_open (map_of u) t) 13 (first_of q) (record { of = t; made = [] })
+    (λ t. unless_shut (TypingShut u open_ok) (not open_ok && is_open (map_of u) t) rule.MisplacedOpenArray (first_of q) (record { of = t; made = [] })
     (λ e. record { made = tt; shut = λ k. subst (λ b. (not b && is_open (map_of u) t) ≡ false) k e }))
 
 fixed_good : (ls : List Phrase) (element : Written) → IsShut element → (u : Around) (name : List ℕ) (m : Mark) (open_ok : Bool) → Has (TypingShut u false) (fixed_array u name m ls element)
@@ -122,7 +124,7 @@ not_ok false b e f = absurd cc
 
 pub array_good : (ls : List Phrase) (at : Pos) (element : Written) → IsShut element → (u : Around) (name : List ℕ) (m : Mark) (open_ok : Bool) → Has (TypingShut u open_ok) (array u name m at open_ok ls element)
 array_good [] at element g u name m open_ok =
-    also_shut (TypingShut u open_ok) (not open_ok || element.open_array) 13 at _
+    also_shut (TypingShut u open_ok) (not open_ok || element.open_array) rule.MisplacedOpenArray at _
     (λ e. then_has (TypingShut u element.open_array) (TypingShut u open_ok) (element.typing u (element_name name) mark.Hidden element.open_array) (λ t. sound (typed_as u name (desc.OpenArray m t.of) t.made)) (g u (element_name name) mark.Hidden element.open_array)
     (λ t h. record { made = (refl, h.made); shut = λ k. absurd (not_ok open_ok element.open_array e k) }))
 array_good (l ∷ ls) at element g u name m open_ok = has_weaker u open_ok (fixed_array u name m (l ∷ ls) element).node (fixed_good (l ∷ ls) element g u name m open_ok)

@@ -16,6 +16,7 @@ use Rattle.ob_types.specs.declared.types.TypeRef.TheVariants as ref
 use Rattle.ob_types.specs.declared.desc.Desc.{Desc}
 use Rattle.ob_types.specs.declared.desc.Desc.TheVariants as desc
 use Rattle.ob_types.specs.declared.typed.TypedType.{TypedType}
+use Rattle.ob_rules.specs.declared.broken.Rule.TheVariants as rule
 use Rattle.ob_rules.specs.Judged.{Judged, sound, both, ◌▷◌}
 use Rattle.ob_rules.specs.Names.{Around, in_unit}
 use Rattle.ob_rules.specs.Phrases.{Phrase}
@@ -34,7 +35,7 @@ as_itself : (u : Around) (name : List ℕ) (d : Desc) (more : List TypedType) �
 as_itself u name d more = (refl, (record { name = name; desc = d }, (inl refl, refl)))
 
 array_itself : (u : Around) (name : List ℕ) (m : Mark) (at : Pos) (open_ok : Bool) (ls : List Phrase) (element : Written) → Has (IsItself u name) (array u name m at open_ok ls element)
-array_itself u name m at open_ok [] element = also_has (IsItself u name) _ 13 at _ (any_then (IsItself u name) (element.typing u (element_name name) mark.Hidden element.open_array) (λ t. sound (typed_as u name (desc.OpenArray m t.of) t.made)) (λ t. as_itself u name (desc.OpenArray m t.of) t.made))
+array_itself u name m at open_ok [] element = also_has (IsItself u name) _ rule.MisplacedOpenArray at _ (any_then (IsItself u name) (element.typing u (element_name name) mark.Hidden element.open_array) (λ t. sound (typed_as u name (desc.OpenArray m t.of) t.made)) (λ t. as_itself u name (desc.OpenArray m t.of) t.made))
 array_itself u name m at open_ok (l ∷ ls) element = any_then (IsItself u name) (both (array_length u l) (fixed_array u (element_name name) mark.Hidden ls element)) (λ p. sound (typed_as u name (desc.Array m p.0 p.1.of) p.1.made)) (λ p. as_itself u name (desc.Array m p.0 p.1.of) p.1.made)
 
 record_itself : (u : Around) (name : List ℕ) (m : Mark) (lists : List WrittenFields) (base : Judged (Option TypeRef)) → Has (IsItself u name) (record_with u name m lists base)

@@ -32,6 +32,7 @@ fn text_of(alloc: Global, outcome: Outcome) -> Result<String, AllocError> {
             pos,
             ..
         } => {
+            let kind = kind.number();
             let at = index_of(pos);
             format!(in alloc; "trap {kind} {number} {at}")
         }

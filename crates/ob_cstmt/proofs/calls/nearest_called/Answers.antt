@@ -2,6 +2,7 @@ use Rattle.std.proofs.Common.{◌≡◌, refl, sym, ap, ◌∙◌, [], ◌∷◌
 use Rattle.std.proofs.lemmas.Result.{IfOk-weaker, on_ok_weaker}
 use Rattle.ob_types.specs.declared.typed.TypedExpr.TheVariants as e
 use Rattle.ob_rules.specs.declared.meant.Where.TheVariants.{AsStatement}
+use Rattle.ob_rules.specs.declared.broken.Rule.TheVariants as rule
 use Rattle.ob_types.specs.declared.typed.Actual.{Actual}
 use Rattle.ob_rules.specs.Books.{book_after}
 use Rattle.ob_rules.specs.Calls as calls
@@ -20,7 +21,7 @@ returns-clause-made g c =
     let made : c.in_ok-call.call ≡ j.node = c.in_ok-call.ensures.made ∙ ap (λ o. (if_sound o f).node) c.no_actuals-none.ensures in
     c.call_if.ensures
     ∙ ap (λ o. (if_sound o (λ x. spec.call_value x)).node)
-    (c.unless_broken-sound.ensures 26 c.args.start j.notes ∙ ap (λ o. (also c.is_receiver_read_only-broken.result 26 c.args.start (record { node = o; notes = j.notes })).node) made ∙ ap (λ b. (also b 26 c.args.start j).node) c.is_receiver_read_only-broken.ensures)
+    (c.unless_broken-sound.ensures rule.NotChangeable c.args.start j.notes ∙ ap (λ o. (also c.is_receiver_read_only-broken.result rule.NotChangeable c.args.start (record { node = o; notes = j.notes })).node) made ∙ ap (λ b. (also b rule.NotChangeable c.args.start j).node) c.is_receiver_read_only-broken.ensures)
     ∙ sym (done_made (calls.call_bound_sound true (g.S.Surroundings.around c.args.here.now) AsStatement c.args.start c.args.chosen []))
 
 pub returns-clause-noted : goal.returns-clause-noted
@@ -32,6 +33,6 @@ returns-clause-noted g c =
     c.in_ok-call.ensures.noted
     ∙ ap (λ o. book_after c.breaks_if.new.self (if_sound o f).notes) c.no_actuals-none.ensures
     ∙ ap (λ k. book_after k j.notes) c.breaks_if.ensures
-    ∙ also_noted b 26 c.args.start j c.args.book.now
-    ∙ ap (λ x. book_after c.args.book.now (also x 26 c.args.start j).notes) c.is_receiver_read_only-broken.ensures
+    ∙ also_noted b rule.NotChangeable c.args.start j c.args.book.now
+    ∙ ap (λ x. book_after c.args.book.now (also x rule.NotChangeable c.args.start j).notes) c.is_receiver_read_only-broken.ensures
     ∙ sym (done_noted (calls.call_bound_sound true (g.S.Surroundings.around c.args.here.now) AsStatement c.args.start c.args.chosen []) c.args.book.now)

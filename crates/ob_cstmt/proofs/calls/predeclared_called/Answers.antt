@@ -1,4 +1,5 @@
 use Rattle.std.proofs.Common.{◌≡◌, refl, sym, ap, ◌∙◌, None}
+use Rattle.ob_rules.specs.declared.broken.Rule.TheVariants as rule
 use Rattle.ob_rules.specs.Books.{book_after}
 use Rattle.ob_rules.specs.Judged.{notes_if, broken_at, ◌▷◌}
 use Rattle.ob_rules.specs.Predeclared.{is_function}
@@ -14,7 +15,7 @@ returns-clause-made g c =
 pub returns-clause-noted : goal.returns-clause-noted
 returns-clause-noted g c =
     c.breaks.ensures
-    ∙ ap (λ k. book_after k (broken_at 28 c.args.start)) (c.breaks_if.ensures ∙ ap (λ b. book_after c.args.book.now (notes_if b 27 c.args.start)) c.is_function.ensures)
-    ∙ after_joined c.args.book.now (notes_if (is_function c.args.procedure) 27 c.args.start) (broken_at 28 c.args.start)
+    ∙ ap (λ k. book_after k (broken_at rule.UnfitPredeclaredParameters c.args.start)) (c.breaks_if.ensures ∙ ap (λ b. book_after c.args.book.now (notes_if b rule.MisplacedCall c.args.start)) c.is_function.ensures)
+    ∙ after_joined c.args.book.now (notes_if (is_function c.args.procedure) rule.MisplacedCall c.args.start) (broken_at rule.UnfitPredeclaredParameters c.args.start)
     ∙ silent_noted c.args.book.now _
     ∙ ap (λ j. book_after c.args.book.now (j ▷ spec.done).notes) (sym (predeclared_is (g.S.Surroundings.around c.args.here.now) c.args.start c.args.procedure))

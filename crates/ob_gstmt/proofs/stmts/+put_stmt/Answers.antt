@@ -1,5 +1,6 @@
 use Rattle.std.proofs.Common.{◌≡◌, suc, arith, sym, ap, ◌∙◌, subst}
 use Rattle.std.proofs.lemmas.Result.{on_ok_weaker, IfOk-weaker}
+use Rattle.ob_trap.specs.declared.trap.Trap.TheVariants as trap
 use Rattle.ob_types.specs.TypedSyntax.{If, Case, Loop, With, Branch, NoBranch, OneCase, NoCase}
 use Rattle.ob_types.specs.TypedView.{expr_view, stmt_view, stmts_view, branches_view, cases_view, otherwise_view}
 use Rattle.ob_types.proofs.TypedViews.{view_assign, view_call_proper, view_updated, view_copy, view_new, view_new_open_array, view_assert, view_halt, view_if, view_while, view_repeat, view_for, view_loop, view_exit, view_return}
@@ -154,7 +155,7 @@ put_stmt-returns-in_ok-put_none_taken-in-None-otherwise-clause-code g t c =
     let f : c.in_ok-end-in-With.end ≡ end_stmt x (With (branches_view c.in-With.branches) (otherwise_view c.in-With.otherwise) c.in-With.pos) (place_in c.args.code.now) = c.in_ok-end-in-With.ensures ∙ ap (λ n. end_stmt x (stmt_view c.args.s.now) n) c.place-in-With.ensures ∙ ap (λ v. end_stmt x v (place_in c.args.code.now)) view in
     let h1 = c.in_ok-next-in-With.ensures.code ∙ ap (λ b. appended c.args.code.now (branches_code x (branches_view b) (place_in c.args.code.now) c.args.hidden c.args.exit c.in_ok-end-in-With.end)) c.as_slice-in-With.ensures in
     let h2 = c.in_ok-next-in-With.ensures.hidden ∙ ap (λ b. next_branches x (branches_view b) c.args.hidden) c.as_slice-in-With.ensures in
-    with_put x (branches_view c.in-With.branches) (otherwise_view c.in-With.otherwise) c.in-With.pos c.args.hidden c.in_ok-next-in-With.next c.args.exit c.in_ok-end-in-With.end c.args.code.now c.put_branches-in-With.new.code c.put_none_taken-in-None-otherwise.new.code f h1 h2 (c.in_ok-put_none_taken-in-None-otherwise.ensures ∙ ap (λ o. appended c.put_branches-in-With.new.code (else_code x 5 c.in-With.pos (otherwise_view o) (place_in c.put_branches-in-With.new.code) c.in_ok-next-in-With.next c.args.exit)) (sym c.in-None-otherwise.is)) ∙ ap (λ v. appended c.args.code.now (stmt_code x v (place_in c.args.code.now) c.args.hidden c.args.exit)) (sym view)
+    with_put x (branches_view c.in-With.branches) (otherwise_view c.in-With.otherwise) c.in-With.pos c.args.hidden c.in_ok-next-in-With.next c.args.exit c.in_ok-end-in-With.end c.args.code.now c.put_branches-in-With.new.code c.put_none_taken-in-None-otherwise.new.code f h1 h2 (c.in_ok-put_none_taken-in-None-otherwise.ensures ∙ ap (λ o. appended c.put_branches-in-With.new.code (else_code x trap.NoMatch c.in-With.pos (otherwise_view o) (place_in c.put_branches-in-With.new.code) c.in_ok-next-in-With.next c.args.exit)) (sym c.in-None-otherwise.is)) ∙ ap (λ v. appended c.args.code.now (stmt_code x v (place_in c.args.code.now) c.args.hidden c.args.exit)) (sym view)
 
 pub put_stmt-returns-in_ok-put_none_taken-in-None-otherwise-clause-hidden : goal.put_stmt-returns-in_ok-put_none_taken-in-None-otherwise-clause-hidden
 put_stmt-returns-in_ok-put_none_taken-in-None-otherwise-clause-hidden g t c =
@@ -170,7 +171,7 @@ put_stmt-returns-in-Some-otherwise-clause-code g t c =
     let f : c.in_ok-end-in-With.end ≡ end_stmt x (With (branches_view c.in-With.branches) (otherwise_view c.in-With.otherwise) c.in-With.pos) (place_in c.args.code.now) = c.in_ok-end-in-With.ensures ∙ ap (λ n. end_stmt x (stmt_view c.args.s.now) n) c.place-in-With.ensures ∙ ap (λ v. end_stmt x v (place_in c.args.code.now)) view in
     let h1 = c.in_ok-next-in-With.ensures.code ∙ ap (λ b. appended c.args.code.now (branches_code x (branches_view b) (place_in c.args.code.now) c.args.hidden c.args.exit c.in_ok-end-in-With.end)) c.as_slice-in-With.ensures in
     let h2 = c.in_ok-next-in-With.ensures.hidden ∙ ap (λ b. next_branches x (branches_view b) c.args.hidden) c.as_slice-in-With.ensures in
-    on_ok_weaker c.put_stmts-in-Some-otherwise.result (λ h. with_put x (branches_view c.in-With.branches) (otherwise_view c.in-With.otherwise) c.in-With.pos c.args.hidden c.in_ok-next-in-With.next c.args.exit c.in_ok-end-in-With.end c.args.code.now c.put_branches-in-With.new.code c.put_stmts-in-Some-otherwise.new.code f h1 h2 (h ∙ ap (λ b. appended c.put_branches-in-With.new.code (stmts_code x (stmts_view b) (place_in c.put_branches-in-With.new.code) c.in_ok-next-in-With.next c.args.exit)) c.as_slice-in-Some-otherwise.ensures ∙ ap (λ o. appended c.put_branches-in-With.new.code (else_code x 5 c.in-With.pos (otherwise_view o) (place_in c.put_branches-in-With.new.code) c.in_ok-next-in-With.next c.args.exit)) (sym c.in-Some-otherwise.is)) ∙ ap (λ v. appended c.args.code.now (stmt_code x v (place_in c.args.code.now) c.args.hidden c.args.exit)) (sym view)) c.put_stmts-in-Some-otherwise.ensures.code
+    on_ok_weaker c.put_stmts-in-Some-otherwise.result (λ h. with_put x (branches_view c.in-With.branches) (otherwise_view c.in-With.otherwise) c.in-With.pos c.args.hidden c.in_ok-next-in-With.next c.args.exit c.in_ok-end-in-With.end c.args.code.now c.put_branches-in-With.new.code c.put_stmts-in-Some-otherwise.new.code f h1 h2 (h ∙ ap (λ b. appended c.put_branches-in-With.new.code (stmts_code x (stmts_view b) (place_in c.put_branches-in-With.new.code) c.in_ok-next-in-With.next c.args.exit)) c.as_slice-in-Some-otherwise.ensures ∙ ap (λ o. appended c.put_branches-in-With.new.code (else_code x trap.NoMatch c.in-With.pos (otherwise_view o) (place_in c.put_branches-in-With.new.code) c.in_ok-next-in-With.next c.args.exit)) (sym c.in-Some-otherwise.is)) ∙ ap (λ v. appended c.args.code.now (stmt_code x v (place_in c.args.code.now) c.args.hidden c.args.exit)) (sym view)) c.put_stmts-in-Some-otherwise.ensures.code
 
 pub put_stmt-returns-in-Some-otherwise-clause-hidden : goal.put_stmt-returns-in-Some-otherwise-clause-hidden
 put_stmt-returns-in-Some-otherwise-clause-hidden g t c =
@@ -186,7 +187,7 @@ put_stmt-returns-in_ok-put_none_taken-in-None-clause-code g t c =
     let f : c.in_ok-end-in-Case.end ≡ end_stmt x (Case (expr_view c.in-Case.value) (cases_view c.in-Case.cases) (otherwise_view c.in-Case.otherwise) c.in-Case.pos) (place_in c.args.code.now) = c.in_ok-end-in-Case.ensures ∙ ap (λ n. end_stmt x (stmt_view c.args.s.now) n) c.place-in-Case.ensures ∙ ap (λ v. end_stmt x v (place_in c.args.code.now)) view in
     let h1 = c.in_ok-next-in-Case.ensures.code ∙ ap (λ b. appended c.put_stored.new.code (cases_code x c.args.hidden (cases_view b) (place_in c.put_stored.new.code) c.in_ok-first-in-Case.first c.args.exit c.in_ok-end-in-Case.end)) c.as_slice-in-Case.ensures in
     let h2 = c.in_ok-next-in-Case.ensures.hidden ∙ ap (λ b. next_cases x (cases_view b) c.in_ok-first-in-Case.first) c.as_slice-in-Case.ensures in
-    case_put x (expr_view c.in-Case.value) (cases_view c.in-Case.cases) (otherwise_view c.in-Case.otherwise) c.in-Case.pos c.args.hidden c.in_ok-first-in-Case.first c.in_ok-next-in-Case.next c.args.exit c.in_ok-end-in-Case.end c.args.code.now c.put_stored.new.code c.put_cases.new.code c.put_none_taken.new.code f c.in_ok-put_stored-in-Case.ensures c.in_ok-first-in-Case.ensures.is h1 h2 (c.in_ok-put_none_taken-in-None.ensures ∙ ap (λ o. appended c.put_cases.new.code (else_code x 4 c.in-Case.pos (otherwise_view o) (place_in c.put_cases.new.code) c.in_ok-next-in-Case.next c.args.exit)) (sym c.in-None.is)) ∙ ap (λ v. appended c.args.code.now (stmt_code x v (place_in c.args.code.now) c.args.hidden c.args.exit)) (sym view)
+    case_put x (expr_view c.in-Case.value) (cases_view c.in-Case.cases) (otherwise_view c.in-Case.otherwise) c.in-Case.pos c.args.hidden c.in_ok-first-in-Case.first c.in_ok-next-in-Case.next c.args.exit c.in_ok-end-in-Case.end c.args.code.now c.put_stored.new.code c.put_cases.new.code c.put_none_taken.new.code f c.in_ok-put_stored-in-Case.ensures c.in_ok-first-in-Case.ensures.is h1 h2 (c.in_ok-put_none_taken-in-None.ensures ∙ ap (λ o. appended c.put_cases.new.code (else_code x trap.NoCase c.in-Case.pos (otherwise_view o) (place_in c.put_cases.new.code) c.in_ok-next-in-Case.next c.args.exit)) (sym c.in-None.is)) ∙ ap (λ v. appended c.args.code.now (stmt_code x v (place_in c.args.code.now) c.args.hidden c.args.exit)) (sym view)
 
 pub put_stmt-returns-in_ok-put_none_taken-in-None-clause-hidden : goal.put_stmt-returns-in_ok-put_none_taken-in-None-clause-hidden
 put_stmt-returns-in_ok-put_none_taken-in-None-clause-hidden g t c =
@@ -203,7 +204,7 @@ put_stmt-returns-in-Some-clause-code g t c =
     let f : c.in_ok-end-in-Case.end ≡ end_stmt x (Case (expr_view c.in-Case.value) (cases_view c.in-Case.cases) (otherwise_view c.in-Case.otherwise) c.in-Case.pos) (place_in c.args.code.now) = c.in_ok-end-in-Case.ensures ∙ ap (λ n. end_stmt x (stmt_view c.args.s.now) n) c.place-in-Case.ensures ∙ ap (λ v. end_stmt x v (place_in c.args.code.now)) view in
     let h1 = c.in_ok-next-in-Case.ensures.code ∙ ap (λ b. appended c.put_stored.new.code (cases_code x c.args.hidden (cases_view b) (place_in c.put_stored.new.code) c.in_ok-first-in-Case.first c.args.exit c.in_ok-end-in-Case.end)) c.as_slice-in-Case.ensures in
     let h2 = c.in_ok-next-in-Case.ensures.hidden ∙ ap (λ b. next_cases x (cases_view b) c.in_ok-first-in-Case.first) c.as_slice-in-Case.ensures in
-    on_ok_weaker c.put_stmts-in-Some.result (λ h. case_put x (expr_view c.in-Case.value) (cases_view c.in-Case.cases) (otherwise_view c.in-Case.otherwise) c.in-Case.pos c.args.hidden c.in_ok-first-in-Case.first c.in_ok-next-in-Case.next c.args.exit c.in_ok-end-in-Case.end c.args.code.now c.put_stored.new.code c.put_cases.new.code c.put_stmts-in-Some.new.code f c.in_ok-put_stored-in-Case.ensures c.in_ok-first-in-Case.ensures.is h1 h2 (h ∙ ap (λ b. appended c.put_cases.new.code (stmts_code x (stmts_view b) (place_in c.put_cases.new.code) c.in_ok-next-in-Case.next c.args.exit)) c.as_slice-in-Some.ensures ∙ ap (λ o. appended c.put_cases.new.code (else_code x 4 c.in-Case.pos (otherwise_view o) (place_in c.put_cases.new.code) c.in_ok-next-in-Case.next c.args.exit)) (sym c.in-Some.is)) ∙ ap (λ v. appended c.args.code.now (stmt_code x v (place_in c.args.code.now) c.args.hidden c.args.exit)) (sym view)) c.put_stmts-in-Some.ensures.code
+    on_ok_weaker c.put_stmts-in-Some.result (λ h. case_put x (expr_view c.in-Case.value) (cases_view c.in-Case.cases) (otherwise_view c.in-Case.otherwise) c.in-Case.pos c.args.hidden c.in_ok-first-in-Case.first c.in_ok-next-in-Case.next c.args.exit c.in_ok-end-in-Case.end c.args.code.now c.put_stored.new.code c.put_cases.new.code c.put_stmts-in-Some.new.code f c.in_ok-put_stored-in-Case.ensures c.in_ok-first-in-Case.ensures.is h1 h2 (h ∙ ap (λ b. appended c.put_cases.new.code (stmts_code x (stmts_view b) (place_in c.put_cases.new.code) c.in_ok-next-in-Case.next c.args.exit)) c.as_slice-in-Some.ensures ∙ ap (λ o. appended c.put_cases.new.code (else_code x trap.NoCase c.in-Case.pos (otherwise_view o) (place_in c.put_cases.new.code) c.in_ok-next-in-Case.next c.args.exit)) (sym c.in-Some.is)) ∙ ap (λ v. appended c.args.code.now (stmt_code x v (place_in c.args.code.now) c.args.hidden c.args.exit)) (sym view)) c.put_stmts-in-Some.ensures.code
 
 pub put_stmt-returns-in-Some-clause-hidden : goal.put_stmt-returns-in-Some-clause-hidden
 put_stmt-returns-in-Some-clause-hidden g t c =

@@ -1,6 +1,7 @@
 use Rattle.std.proofs.Common.{rules, pos, ap, sym, ◌∙◌, w32, to_z, of_z}
 use Rattle.std.specs.Int.RustNames.{FitsSigned}
 use Rattle.std.proofs.lemmas.Int.{to_z-of_z}
+use Rattle.ob_trap.specs.declared.trap.Trap.TheVariants as trap
 use Rattle.ob_mem.specs.Words.{stored}
 use Rattle.ob_instr.specs.Rows.{Next, Traps, on_found, with_memory}
 use Rattle.ob_machine_operands.specs.declared.numbers.Fit.TheVariants as fit
@@ -9,15 +10,15 @@ use Rattle.ob_machine_operands.specs.Laws.{by_fit}
 use Rattle.ob_machine_step.proofs.memory.store_in_type.Goals as goal
 
 pub returns-in-Without-clause-does : goal.returns-in-Without-clause-does
-returns-in-Without-clause-does c = λ out. by_fit c.args.bytes c.args.number fit.Without (λ v. on_found (stored c.args.state.now.words.words c.args.at v) (λ l. Next (ops_of c.args.state.now) (with_memory (world_of c.args.state.now out) l))) (Traps 8 (pos 0) (world_of c.args.state.now out)) c.ranges.bytes c.ranges.number c.in-Without.ensures
+returns-in-Without-clause-does c = λ out. by_fit c.args.bytes c.args.number fit.Without (λ v. on_found (stored c.args.state.now.words.words c.args.at v) (λ l. Next (ops_of c.args.state.now) (with_memory (world_of c.args.state.now out) l))) (Traps trap.Overflow (pos 0) (world_of c.args.state.now out)) c.ranges.bytes c.ranges.number c.in-Without.ensures
 
 pub returns-in-Outside-clause-does : goal.returns-in-Outside-clause-does
-returns-in-Outside-clause-does c = λ out. by_fit c.args.bytes c.args.number fit.Outside (λ v. on_found (stored c.args.state.now.words.words c.args.at v) (λ l. Next (ops_of c.args.state.now) (with_memory (world_of c.args.state.now out) l))) (Traps 8 (pos 0) (world_of c.args.state.now out)) c.ranges.bytes c.ranges.number c.in-Outside.ensures
+returns-in-Outside-clause-does c = λ out. by_fit c.args.bytes c.args.number fit.Outside (λ v. on_found (stored c.args.state.now.words.words c.args.at v) (λ l. Next (ops_of c.args.state.now) (with_memory (world_of c.args.state.now out) l))) (Traps trap.Overflow (pos 0) (world_of c.args.state.now out)) c.ranges.bytes c.ranges.number c.in-Outside.ensures
 
 pub returns-in-Inside-clause-does : goal.returns-in-Inside-clause-does
 returns-in-Inside-clause-does c = λ out.
     let f : FitsSigned w32 c.in-Inside.word = search rules in
-    by_fit c.args.bytes c.args.number (fit.Inside c.in-Inside.word) (λ v. on_found (stored c.args.state.now.words.words c.args.at v) (λ l. Next (ops_of c.args.state.now) (with_memory (world_of c.args.state.now out) l))) (Traps 8 (pos 0) (world_of c.args.state.now out)) c.ranges.bytes c.ranges.number c.in-Inside.ensures
+    by_fit c.args.bytes c.args.number (fit.Inside c.in-Inside.word) (λ v. on_found (stored c.args.state.now.words.words c.args.at v) (λ l. Next (ops_of c.args.state.now) (with_memory (world_of c.args.state.now out) l))) (Traps trap.Overflow (pos 0) (world_of c.args.state.now out)) c.ranges.bytes c.ranges.number c.in-Inside.ensures
     ∙ ap (λ v. on_found (stored c.args.state.now.words.words c.args.at v) (λ l. Next (ops_of c.args.state.now) (with_memory (world_of c.args.state.now out) l))) (sym (to_z-of_z w32 c.in-Inside.word f))
     ∙ ap (λ x. on_found (stored c.args.state.now.words.words x (to_z w32 (of_z w32 c.in-Inside.word))) (λ l. Next (ops_of c.args.state.now) (with_memory (world_of c.args.state.now out) l))) (sym (to_z-of_z w32 c.args.at c.ranges.at))
     ∙ c.store_word.ensures.does out
