@@ -1,12 +1,12 @@
 -- Rules of one number are one.
-use Rattle.std.proofs.Common.{◌≡◌, refl, sym, ap, ◌∙◌, ℕ, List, [], ◌∷◌}
-use Rattle.std.proofs.Math.ListN.{get_or}
+use Rattle.std.proofs.Common.{◌≡◌, refl, sym, ap, ◌∙◌, ℕ, List, [], ◌∷◌, Option, Some}
+use Rattle.std.specs.Prelude.{slice_get}
 use Rattle.ob_rules.specs.declared.broken.Rule.{Rule}
 use Rattle.ob_rules.specs.declared.broken.Rule.TheVariants as rule
 use Rattle.ob_rules.specs.Judged.{number_of}
 
 -- the rules by their numbers, with the first where there is none
-rules : List Rule
+abbrev rules : List Rule
 rules =
     rule.DeclaredTwice ∷ rule.DeclaredTwice ∷ rule.NotDeclared ∷ rule.WrongKind ∷ rule.WrongClosingName ∷ rule.ReservedModule ∷
     rule.MisplacedMark ∷ rule.LeftOut ∷ rule.OuterVariable ∷ rule.LiteralTooLarge ∷ rule.NotConstant ∷ rule.ConstantOutOfRange ∷
@@ -16,10 +16,10 @@ rules =
     rule.DeclaredTwice ∷ rule.NotAssignable ∷ rule.NotBoolean ∷ rule.UnfitCase ∷ rule.UnfitFor ∷ rule.MisplacedExit ∷
     rule.UnfitReturn ∷ rule.UnfitWith ∷ rule.GuardedVarParameter ∷ rule.UnfitProcedureValue ∷ rule.UnfitSuperCall ∷ []
 
-rule_of : ℕ → Rule
-rule_of n = get_or rules n rule.DeclaredTwice
+abbrev rule_of : ℕ → Option Rule
+rule_of n = slice_get rules n
 
-found_again : (r : Rule) → rule_of (number_of r) ≡ r
+found_again : (r : Rule) → rule_of (number_of r) ≡ Some r
 found_again rule.DeclaredTwice = refl
 found_again rule.NotDeclared = refl
 found_again rule.WrongKind = refl
@@ -59,4 +59,7 @@ found_again rule.UnfitProcedureValue = refl
 found_again rule.UnfitSuperCall = refl
 
 pub same_number : (r s : Rule) → number_of r ≡ number_of s → r ≡ s
-same_number r s e = sym (found_again r) ∙ ap rule_of e ∙ found_again s
+same_number r s e = some_is (sym (found_again r) ∙ ap rule_of e ∙ found_again s)
+  where
+    some_is : {a b : Rule} → Some a ≡ Some b → a ≡ b
+    some_is k = cc
