@@ -13,7 +13,7 @@ ghost use Rattle.ob_cdecl.specs.Seen.{contents_of};
 use crate::contents::Contents;
 use ob_cdecl_scopes::{Imports, Scope};
 use ob_cdecl_type::{check_mark, is_module_level};
-use ob_cexpr::{check_constant, start_of};
+use ob_cexpr_trait::{CheckExpr, start_of};
 use ob_rules::{Entity, Notebook, Rule, Surroundings};
 use ob_tree::{Expr, Ident, IdentDef, Mark, Pos};
 use ob_types::Value;
@@ -55,8 +55,9 @@ fn no_nil(book: &mut Notebook, at: Pos, value: Value) -> Option<Value>
     }
 }
 
-fn constant_of<E: Imports>(
+fn constant_of<E: Imports, C: CheckExpr>(
     alloc: Global,
+    checker: &C,
     scope: &Scope<'_, E>,
     book: &mut Notebook,
     e: &Expr,
@@ -64,7 +65,7 @@ fn constant_of<E: Imports>(
     ensures made { IfOk result (λ r. r ≡ (constant_value (around_of E.types scope.now) (phrase_of e.now) ▷ spec.no_nil (phrase_of e.now).start).node) }
     ensures noted { OnOk result (book.new ≡ book_after book.old (constant_value (around_of E.types scope.now) (phrase_of e.now) ▷ spec.no_nil (phrase_of e.now).start).notes) }
 {
-    match check_constant(alloc, scope, book, e)? {
+    match checker.check_constant(alloc, scope, book, e)? {
         None => Ok(None),
         Some(value) => Ok(no_nil(book, start_of(e), value)),
     }
@@ -112,8 +113,9 @@ fn hold_constant(
 }
 
 /// The declaration of a constant: from here on it is known.
-pub fn constant_declared<E: Imports>(
+pub fn constant_declared<E: Imports, C: CheckExpr>(
     alloc: Global,
+    checker: &C,
     scope: &mut Scope<'_, E>,
     book: &mut Notebook,
     contents: &mut Contents,
@@ -125,7 +127,7 @@ pub fn constant_declared<E: Imports>(
     ensures added { OnOk result (contents_of contents.new ≡ spec.together (contents_of contents.old) (spec.constant_declared d.now (phrase_of e.now) (around_of E.types scope.old)).part.contents) }
 {
     let mark = check_mark(&*scope, book, false, d);
-    let value = constant_of(alloc, &*scope, book, e)?;
+    let value = constant_of(alloc, checker, &*scope, book, e)?;
     let what = constant_entity(alloc, mark, &value)?;
     let level = is_module_level(&*scope);
     hold_constant(contents, level, &d.ident, mark, value)?;

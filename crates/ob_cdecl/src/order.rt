@@ -16,6 +16,7 @@ use crate::decls::constant_declared;
 use crate::types::type_declared;
 use crate::variables::variables_declared;
 use ob_cdecl_scopes::{Imports, Scope};
+use ob_cexpr_trait::CheckExpr;
 use ob_rules::Notebook;
 use ob_tree::Decl;
 use std::alloc::{AllocError, Global};
@@ -32,8 +33,9 @@ fn say_nothing(book: &mut Notebook, contents: &mut Contents)
 
 // A declaration that is no procedure.
 #[tactic(auto, using(crate::proofs::ContentsLaws::adds_nothing, crate::proofs::ContentsLaws::notes_nothing))]
-fn plain_declared<E: Imports>(
+fn plain_declared<E: Imports, C: CheckExpr>(
     alloc: Global,
+    checker: &C,
     scope: &mut Scope<'_, E>,
     book: &mut Notebook,
     contents: &mut Contents,
@@ -46,13 +48,21 @@ fn plain_declared<E: Imports>(
 {
     match d {
         Decl::Constant { name, value } => {
-            constant_declared(alloc, scope, book, contents, name, value)
+            constant_declared(alloc, checker, scope, book, contents, name, value)
         }
         Decl::NamedType { name, node } => {
-            type_declared(alloc, scope, book, contents, name, node)
+            type_declared(alloc, checker, scope, book, contents, name, node)
         }
         Decl::Variables { names, node } => {
-            variables_declared(alloc, scope, book, contents, names.as_slice(), node)
+            variables_declared(
+                alloc,
+                checker,
+                scope,
+                book,
+                contents,
+                names.as_slice(),
+                node,
+            )
         }
         Decl::Procedure { .. } => {
             say_nothing(book, contents);
@@ -67,8 +77,9 @@ fn plain_declared<E: Imports>(
 
 /// The declarations of a sequence but for its procedures, in turn: from here on what they declare is
 /// known.
-pub fn plain_in_order<E: Imports>(
+pub fn plain_in_order<E: Imports, C: CheckExpr>(
     alloc: Global,
+    checker: &C,
     scope: &mut Scope<'_, E>,
     book: &mut Notebook,
     contents: &mut Contents,
@@ -80,7 +91,7 @@ pub fn plain_in_order<E: Imports>(
     ensures grows { OnOk result (Grows (around_of E.types scope.old) (around_of E.types scope.new)) }
 {
     'declarations: for d in decls {
-        plain_declared(alloc, scope, book, contents, d)?;
+        plain_declared(alloc, checker, scope, book, contents, d)?;
     }
     Ok(())
 }

@@ -20,6 +20,7 @@ use crate::decls::declare_new;
 use ob_cdecl_field::{Typed, add_types, name_of, typed_as};
 use ob_cdecl_scopes::{Imports, Scope};
 use ob_cdecl_type::{check_mark, check_type};
+use ob_cexpr_trait::CheckExpr;
 use ob_rules::{Entity, Notebook, Surroundings};
 use ob_tree::{Ident, IdentDef, Mark, Name, ObjName, TypeNode};
 use ob_types::Desc;
@@ -62,8 +63,9 @@ fn equated<E: Imports>(
     typed_as(alloc, scope, name, Desc::Alias(mark, of), made)
 }
 
-fn equated_type<E: Imports>(
+fn equated_type<E: Imports, C: CheckExpr>(
     alloc: Global,
+    checker: &C,
     scope: &mut Scope<'_, E>,
     book: &mut Notebook,
     name: &[u8],
@@ -74,7 +76,7 @@ fn equated_type<E: Imports>(
     ensures noted { OnOk result (book.new ≡ book_after book.old (made (spec.equated (around_of E.types scope.old) name.now mark) ((written node.now).typing (around_of E.types scope.old) name.now mark false)).notes) }
     ensures stays { OnOk result (around_of E.types scope.new ≡ around_of E.types scope.old) }
 {
-    match check_type(alloc, scope, book, node, name, mark, false)? {
+    match check_type(alloc, checker, scope, book, node, name, mark, false)? {
         None => Ok(None),
         Some(t) => {
             let equal = equated(alloc, &*scope, name, mark, t)?;
@@ -83,8 +85,9 @@ fn equated_type<E: Imports>(
     }
 }
 
-fn typing_as<E: Imports>(
+fn typing_as<E: Imports, C: CheckExpr>(
     alloc: Global,
+    checker: &C,
     scope: &mut Scope<'_, E>,
     book: &mut Notebook,
     name: &[u8],
@@ -96,8 +99,8 @@ fn typing_as<E: Imports>(
     ensures stays { OnOk result (around_of E.types scope.new ≡ around_of E.types scope.old) }
 {
     match name_of(node) {
-        None => check_type(alloc, scope, book, node, name, mark, false),
-        Some(_) => equated_type(alloc, scope, book, name, mark, node),
+        None => check_type(alloc, checker, scope, book, node, name, mark, false),
+        Some(_) => equated_type(alloc, checker, scope, book, name, mark, node),
     }
 }
 
@@ -143,8 +146,9 @@ fn declare_type<E: Imports>(
     }
 }
 
-fn type_judged<E: Imports>(
+fn type_judged<E: Imports, C: CheckExpr>(
     alloc: Global,
+    checker: &C,
     scope: &mut Scope<'_, E>,
     book: &mut Notebook,
     contents: &mut Contents,
@@ -159,6 +163,7 @@ fn type_judged<E: Imports>(
     let name = object_name(alloc, &*scope, &d.ident.name)?;
     let t = typing_as(
         alloc,
+        checker,
         scope,
         book,
         name.as_bytes(),
@@ -169,8 +174,9 @@ fn type_judged<E: Imports>(
 }
 
 /// The declaration of a type: from here on it is known.
-pub fn type_declared<E: Imports>(
+pub fn type_declared<E: Imports, C: CheckExpr>(
     alloc: Global,
+    checker: &C,
     scope: &mut Scope<'_, E>,
     book: &mut Notebook,
     contents: &mut Contents,
@@ -181,5 +187,5 @@ pub fn type_declared<E: Imports>(
     ensures noted { OnOk result (book.new ≡ book_after book.old (spec.type_declared d.now (written node.now) (around_of E.types scope.old)).part.notes) }
     ensures added { OnOk result (contents_of contents.new ≡ spec.together (contents_of contents.old) (spec.type_declared d.now (written node.now) (around_of E.types scope.old)).part.contents) }
 {
-    type_judged(alloc, scope, book, contents, d, node)
+    type_judged(alloc, checker, scope, book, contents, d, node)
 }

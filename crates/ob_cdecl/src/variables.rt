@@ -18,6 +18,7 @@ use crate::decls::declare_new;
 use ob_cdecl_field::{Typed, add_types, first_name};
 use ob_cdecl_scopes::{Imports, Scope};
 use ob_cdecl_type::{check_mark, check_type, is_module_level};
+use ob_cexpr_trait::CheckExpr;
 use ob_rules::{Entity, Notebook, Surroundings};
 use ob_tree::{CompactName, Ident, IdentDef, Mark, Name, ObjName, TypeNode};
 use ob_types::{TypeRef, Variable};
@@ -153,8 +154,9 @@ fn variables_name<E: Imports>(
 }
 
 /// The declaration of variables of one type: from here on they are known.
-pub fn variables_declared<E: Imports>(
+pub fn variables_declared<E: Imports, C: CheckExpr>(
     alloc: Global,
+    checker: &C,
     scope: &mut Scope<'_, E>,
     book: &mut Notebook,
     contents: &mut Contents,
@@ -168,6 +170,7 @@ pub fn variables_declared<E: Imports>(
     let name = variables_name(alloc, &*scope, names)?;
     match check_type(
         alloc,
+        checker,
         scope,
         book,
         node,

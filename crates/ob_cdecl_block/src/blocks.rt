@@ -23,6 +23,7 @@ use ob_cdecl::Contents;
 use ob_cdecl_heading::Head;
 use ob_cdecl_scopes::{Imports, Scope};
 use ob_cdecl_type::is_module_level;
+use ob_cexpr_trait::CheckExpr;
 use ob_rules::{Known, Notebook};
 use ob_tree::{Decl, Ident, Stmt};
 use std::alloc::{AllocError, Global};
@@ -32,8 +33,9 @@ use std::alloc::{AllocError, Global};
 /// the end as it was, and no bound procedure comes; at module level the types are those with the
 /// bound procedures that they introduce.
 #[cycle(block)]
-pub fn block<E: Imports>(
+pub fn block<E: Imports, C: CheckExpr>(
     alloc: Global,
+    checker: &C,
     scope: &mut Scope<'_, E>,
     book: &mut Notebook,
     contents: &mut Contents,
@@ -49,9 +51,9 @@ pub fn block<E: Imports>(
     let level = is_module_level(&*scope);
     let names = type_names(alloc, decls)?;
     let outer = scope.set_later_types(names);
-    let heads = declare_all(alloc, scope, book, contents, decls, level)?;
-    procedures(alloc, scope, book, contents, decls, heads)?;
-    add_stmts_of(alloc, scope, book, contents, body)?;
+    let heads = declare_all(alloc, checker, scope, book, contents, decls, level)?;
+    procedures(alloc, checker, scope, book, contents, decls, heads)?;
+    add_stmts_of(alloc, checker, scope, book, contents, body)?;
     leave_block(scope, level, mark, outer);
     Ok(())
 }
@@ -59,8 +61,9 @@ pub fn block<E: Imports>(
 // The procedures among the declarations, which have these headings, the last first. Each sees what
 // is known behind its heading.
 #[cycle(block)]
-fn procedures<E: Imports>(
+fn procedures<E: Imports, C: CheckExpr>(
     alloc: Global,
+    checker: &C,
     scope: &mut Scope<'_, E>,
     book: &mut Notebook,
     contents: &mut Contents,
@@ -77,7 +80,9 @@ fn procedures<E: Imports>(
     let mut aside = Vec::new(alloc);
     let mut left = heads;
     'declarations: for d in decls {
-        procedure_if(alloc, scope, book, contents, &mut aside, &mut left, d)?;
+        procedure_if(
+            alloc, checker, scope, book, contents, &mut aside, &mut left, d,
+        )?;
     }
     scope.show(alloc, &mut aside, all)?;
     Ok(())
@@ -85,8 +90,9 @@ fn procedures<E: Imports>(
 
 // The procedure or forward declaration, which has the first of these headings.
 #[cycle(block)]
-fn procedure_if<E: Imports>(
+fn procedure_if<E: Imports, C: CheckExpr>(
     alloc: Global,
+    checker: &C,
     scope: &mut Scope<'_, E>,
     book: &mut Notebook,
     contents: &mut Contents,
@@ -113,6 +119,7 @@ fn procedure_if<E: Imports>(
             Some(head) => {
                 procedure(
                     alloc,
+                    checker,
                     scope,
                     book,
                     contents,
@@ -140,8 +147,9 @@ fn procedure_if<E: Imports>(
 
 // A procedure, which sees what is known behind its heading.
 #[cycle(block)]
-fn procedure<E: Imports>(
+fn procedure<E: Imports, C: CheckExpr>(
     alloc: Global,
+    checker: &C,
     scope: &mut Scope<'_, E>,
     book: &mut Notebook,
     contents: &mut Contents,
@@ -159,14 +167,17 @@ fn procedure<E: Imports>(
     ensures added { (n : ℕ) (h : heading.Head) → IsKept n head h → IsBehind (aside.old.items ++ (around_of E.types scope.old).known) h → OnOk result (contents_of contents.new ≡ spec.together (contents_of contents.old) (procedure_inside (whole (around_of E.types scope.old) aside.old) h decls.now body.now closing.now).contents) }
 {
     scope.show(alloc, aside, head.behind)?;
-    procedure_here(alloc, scope, book, contents, head, decls, body, closing)?;
+    procedure_here(
+        alloc, checker, scope, book, contents, head, decls, body, closing,
+    )?;
     Ok(())
 }
 
 // A procedure, where it is known what is known behind its heading.
 #[cycle(block)]
-fn procedure_here<E: Imports>(
+fn procedure_here<E: Imports, C: CheckExpr>(
     alloc: Global,
+    checker: &C,
     scope: &mut Scope<'_, E>,
     book: &mut Notebook,
     contents: &mut Contents,
@@ -185,7 +196,7 @@ fn procedure_here<E: Imports>(
     let entered = open(alloc, scope, book, head, closing)?;
     let (opened, outside) = entered;
     let mut inner = Contents::new(alloc);
-    block(alloc, scope, book, &mut inner, decls, body)?;
+    block(alloc, checker, scope, book, &mut inner, decls, body)?;
     scope.leave_body(outside);
     add_procedure(alloc, &*scope, contents, opened, inner)?;
     Ok(())

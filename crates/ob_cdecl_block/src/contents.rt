@@ -19,6 +19,7 @@ use ob_cdecl_field::Parameters;
 use ob_cdecl_heading::{BoundAs, Head};
 use ob_cdecl_scopes::{Imports, Scope};
 use ob_cexpr_name::{Member, find_member};
+use ob_cexpr_trait::CheckExpr;
 use ob_cstmt::check_stmts;
 use ob_rules::Notebook;
 use ob_tree::{CompactName, Ident, List, Name, Stmt};
@@ -231,8 +232,9 @@ fn add_stmts(contents: &mut Contents, body: Option<StmtTrees>) -> Result<(), All
 }
 
 /// The statements of a sequence.
-pub(crate) fn add_stmts_of<E: Imports>(
+pub(crate) fn add_stmts_of<E: Imports, C: CheckExpr>(
     alloc: Global,
+    checker: &C,
     scope: &mut Scope<'_, E>,
     book: &mut Notebook,
     contents: &mut Contents,
@@ -242,7 +244,7 @@ pub(crate) fn add_stmts_of<E: Imports>(
     ensures noted { OnOk result (book.new ≡ book_after book.old (spec.body_part (in_turn (map judging body.now) (around_of E.types scope.old))).notes) }
     ensures added { OnOk result (contents_of contents.new ≡ spec.together (contents_of contents.old) (spec.body_part (in_turn (map judging body.now) (around_of E.types scope.old))).contents) }
 {
-    let made = check_stmts(alloc, scope, book, body)?;
+    let made = check_stmts(alloc, checker, scope, book, body)?;
     add_stmts(contents, made)?;
     Ok(())
 }

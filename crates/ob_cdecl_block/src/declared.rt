@@ -20,6 +20,7 @@ use crate::left::pointers_told;
 use ob_cdecl::{Contents, append_notes, plain_in_order, take_later};
 use ob_cdecl_heading::{Head, Heads, add_heading};
 use ob_cdecl_scopes::{Imports, Scope, Stack};
+use ob_cexpr_trait::CheckExpr;
 use ob_rules::{Later, Notebook};
 use ob_tree::{Decl, List};
 use std::alloc::{AllocError, Global};
@@ -50,8 +51,9 @@ pub(crate) fn type_names(alloc: Global, decls: &[Decl]) -> Result<Stack, AllocEr
 }
 
 // All but the procedures, in order. Gives what is judged later.
-fn plain_part<E: Imports>(
+fn plain_part<E: Imports, C: CheckExpr>(
     alloc: Global,
+    checker: &C,
     scope: &mut Scope<'_, E>,
     book: &mut Notebook,
     contents: &mut Contents,
@@ -64,15 +66,16 @@ fn plain_part<E: Imports>(
     ensures later { IfOk result (λ r. r ≡ (plain_in_order decls.now (around_of E.types scope.old)).part.notes.later) }
 {
     let mut plain = Notebook::new(alloc);
-    plain_in_order(alloc, scope, &mut plain, contents, decls)?;
+    plain_in_order(alloc, checker, scope, &mut plain, contents, decls)?;
     let later = take_later(alloc, &mut plain);
     append_notes(book, plain)?;
     Ok(later)
 }
 
 // The heading of a procedure or forward declaration.
-fn add_heading_if<E: Imports>(
+fn add_heading_if<E: Imports, C: CheckExpr>(
     alloc: Global,
+    checker: &C,
     scope: &mut Scope<'_, E>,
     heads: &mut Heads,
     d: &Decl,
@@ -81,15 +84,18 @@ fn add_heading_if<E: Imports>(
     ensures heads { (hs : heading.Heads) → around_of E.types scope.old ≡ hs.around → AreKept (suc hs.around.scope) heads.old (heading.reversed hs.before) → OnOk result (AreKept (suc hs.around.scope) heads.new (heading.reversed (heading_added (spec.procedure_of (spec.declaration d.now)) hs).before)) }
 {
     match d {
-        Decl::Procedure { heading, .. } => add_heading(alloc, scope, heads, heading, false),
-        Decl::Forward(heading) => add_heading(alloc, scope, heads, heading, true),
+        Decl::Procedure { heading, .. } => add_heading(
+            alloc, checker, scope, heads, heading, false,
+        ),
+        Decl::Forward(heading) => add_heading(alloc, checker, scope, heads, heading, true),
         Decl::Constant { .. } | Decl::NamedType { .. } | Decl::Variables { .. } => Ok(()),
     }
 }
 
 // The headings in order: from here on the procedures are known.
-fn headings_told<E: Imports>(
+fn headings_told<E: Imports, C: CheckExpr>(
     alloc: Global,
+    checker: &C,
     scope: &mut Scope<'_, E>,
     decls: &[Decl],
 ) -> Result<Heads, AllocError>
@@ -98,15 +104,16 @@ fn headings_told<E: Imports>(
 {
     let mut heads = Heads::new(alloc);
     'declarations: for d in decls {
-        add_heading_if(alloc, scope, &mut heads, d)?;
+        add_heading_if(alloc, checker, scope, &mut heads, d)?;
     }
     Ok(heads)
 }
 
 /// All that is declared, in order, with the headings of the procedures, and what can be judged when
 /// these are known. Gives the headings, the last first.
-pub(crate) fn declare_all<E: Imports>(
+pub(crate) fn declare_all<E: Imports, C: CheckExpr>(
     alloc: Global,
+    checker: &C,
     scope: &mut Scope<'_, E>,
     book: &mut Notebook,
     contents: &mut Contents,
@@ -119,8 +126,8 @@ pub(crate) fn declare_all<E: Imports>(
     ensures grows { OnOk result (Grows (around_of E.types scope.old) (plain_in_order decls.now (around_of E.types scope.old)).around) }
     ensures heads { IfOk result (λ r. AreKept (suc (plain_in_order decls.now (around_of E.types scope.old)).around.scope) (reverse r.items) (heading.reversed (headed decls.now (around_of E.types scope.old)).before)) }
 {
-    let later = plain_part(alloc, scope, book, contents, decls)?;
-    let heads = headings_told(alloc, scope, decls)?;
+    let later = plain_part(alloc, checker, scope, book, contents, decls)?;
+    let heads = headings_told(alloc, checker, scope, decls)?;
     pointers_told(alloc, &*scope, book, later.as_slice(), heads.as_slice())?;
     bound_told(
         alloc,

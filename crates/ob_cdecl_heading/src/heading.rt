@@ -21,6 +21,7 @@ use crate::owner::{know_receiver, owner_if};
 use ob_cdecl_field::{Parameters, add_types, check_mark};
 use ob_cdecl_scopes::{Imports, Inside, Scope};
 use ob_cdecl_type::check_parameters;
+use ob_cexpr_trait::CheckExpr;
 use ob_rules::{Entity, Known, Notebook, Rule, Surroundings};
 use ob_tree::{CompactName, Heading, Ident, Mark, Name, ObjName, QName, Receiver};
 use ob_types_trees::copy_signature;
@@ -81,8 +82,9 @@ fn enter_heading<E: Imports>(scope: &mut Scope<'_, E>) -> Result<(), AllocError>
     Ok(())
 }
 
-fn parameters_inside<E: Imports>(
+fn parameters_inside<E: Imports, C: CheckExpr>(
     alloc: Global,
+    checker: &C,
     scope: &mut Scope<'_, E>,
     book: &mut Notebook,
     heading: &Heading,
@@ -95,13 +97,14 @@ fn parameters_inside<E: Imports>(
 {
     enter_heading(scope)?;
     know_receiver(alloc, scope, &heading.receiver, bound)?;
-    let found = check_parameters(alloc, scope, book, &heading.parameters, name)?;
+    let found = check_parameters(alloc, checker, scope, book, &heading.parameters, name)?;
     Ok(found)
 }
 
 // The parameters of a heading, and the names that are declared in it.
-fn heading_parameters<E: Imports>(
+fn heading_parameters<E: Imports, C: CheckExpr>(
     alloc: Global,
+    checker: &C,
     scope: &mut Scope<'_, E>,
     book: &mut Notebook,
     heading: &Heading,
@@ -115,7 +118,7 @@ fn heading_parameters<E: Imports>(
     ensures stays { OnOk result (around_of E.types scope.new ≡ around_of E.types scope.old) }
 {
     let _ = scope.mark();
-    let found = parameters_inside(alloc, scope, book, heading, bound, name)?;
+    let found = parameters_inside(alloc, checker, scope, book, heading, bound, name)?;
     let inside = scope.leave_heading(alloc)?;
     Ok((found, inside))
 }
@@ -164,8 +167,9 @@ fn receiver_name(receiver: &Option<Receiver>) -> Option<Ident>
 }
 
 // A heading by itself; its name is not known yet.
-fn head_of<E: Imports>(
+fn head_of<E: Imports, C: CheckExpr>(
     alloc: Global,
+    checker: &C,
     scope: &mut Scope<'_, E>,
     heading: &Heading,
     forward: bool,
@@ -180,6 +184,7 @@ fn head_of<E: Imports>(
     let name = forward_name(alloc, forward, path.as_bytes())?;
     let (found, inside) = heading_parameters(
         alloc,
+        checker,
         scope,
         &mut notes,
         heading,
@@ -365,8 +370,9 @@ fn declared_head(head: Head, twice: bool, behind: usize) -> Head
 /// One more heading, of a procedure or of a forward declaration, behind those so far: its parameters,
 /// what it is bound to and its mark are judged, and from here on its name is known, where it is not
 /// bound, and the types that it makes. What is said of it, and what is declared in it, is kept with it.
-pub fn add_heading<E: Imports>(
+pub fn add_heading<E: Imports, C: CheckExpr>(
     alloc: Global,
+    checker: &C,
     scope: &mut Scope<'_, E>,
     heads: &mut Heads,
     heading: &Heading,
@@ -375,7 +381,7 @@ pub fn add_heading<E: Imports>(
     ensures around { (hs : spec.Heads) → around_of E.types scope.old ≡ hs.around → AreKept (suc hs.around.scope) heads.old (spec.reversed hs.before) → OnOk result (around_of E.types scope.new ≡ (spec.add_heading hs (spec.heading_of heading.now) forward).around) }
     ensures heads { (hs : spec.Heads) → around_of E.types scope.old ≡ hs.around → AreKept (suc hs.around.scope) heads.old (spec.reversed hs.before) → OnOk result (AreKept (suc hs.around.scope) heads.new (spec.reversed (spec.add_heading hs (spec.heading_of heading.now) forward).before)) }
 {
-    let head = head_of(alloc, scope, heading, forward)?;
+    let head = head_of(alloc, checker, scope, heading, forward)?;
     add_made(alloc, scope, &head.parameters)?;
     let twice = name_twice(alloc, &*scope, heads, &head)?;
     know_procedure(alloc, scope, &head, twice)?;

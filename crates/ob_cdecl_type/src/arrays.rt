@@ -16,14 +16,16 @@ ghost use Rattle.ob_cdecl_type.specs.Nested.{array_judged, arrays, deep_name, le
 use crate::lengths::array_length;
 use ob_cdecl_field::{Typed, element_name, typed_as};
 use ob_cdecl_scopes::{Imports, Scope};
+use ob_cexpr_trait::CheckExpr;
 use ob_rules::Notebook;
 use ob_tree::{Expr, Mark, ObjName};
 use ob_types::Desc;
 use std::alloc::{AllocError, Global};
 
 /// The lengths of an array, in order.
-pub fn lengths_of<E: Imports>(
+pub fn lengths_of<E: Imports, C: CheckExpr>(
     alloc: Global,
+    checker: &C,
     scope: &Scope<'_, E>,
     book: &mut Notebook,
     lengths: &[Expr],
@@ -33,7 +35,7 @@ pub fn lengths_of<E: Imports>(
 {
     let mut all = Vec::new(alloc);
     'lengths: for e in lengths {
-        let length = array_length(alloc, scope, book, e)?;
+        let length = array_length(alloc, checker, scope, book, e)?;
         all.push(length)?;
     }
     Ok(all)

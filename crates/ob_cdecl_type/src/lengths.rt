@@ -9,7 +9,7 @@ ghost use Rattle.ob_rules.specs.Expressions.{phrase_of};
 ghost use Rattle.ob_rules.specs.Types as spec;
 
 use ob_cdecl_scopes::{Imports, Scope};
-use ob_cexpr::{check_constant, start_of};
+use ob_cexpr_trait::{CheckExpr, start_of};
 use ob_rules::{Notebook, Rule};
 use ob_tree::{Expr, Pos};
 use ob_types::Value;
@@ -37,8 +37,9 @@ fn length_of(book: &mut Notebook, at: Pos, value: &Value) -> Option<u32>
 }
 
 /// The length of an array.
-pub fn array_length<E: Imports>(
+pub fn array_length<E: Imports, C: CheckExpr>(
     alloc: Global,
+    checker: &C,
     scope: &Scope<'_, E>,
     book: &mut Notebook,
     e: &Expr,
@@ -46,7 +47,7 @@ pub fn array_length<E: Imports>(
     ensures made { IfOk result (λ r. r ≡ (spec.array_length (around_of E.types scope.now) (phrase_of e.now)).node) }
     ensures noted { OnOk result (book.new ≡ book_after book.old (spec.array_length (around_of E.types scope.now) (phrase_of e.now)).notes) }
 {
-    match check_constant(alloc, scope, book, e)? {
+    match checker.check_constant(alloc, scope, book, e)? {
         None => Ok(None),
         Some(value) => Ok(length_of(book, start_of(e), &value)),
     }

@@ -26,6 +26,7 @@ use ob_cdecl_field::{
     result_of, section_known, section_name, start_of, typed_as, with_result,
 };
 use ob_cdecl_scopes::{Imports, Scope, Stack};
+use ob_cexpr_trait::CheckExpr;
 use ob_rules::{Notebook, Rule};
 use ob_tree::{Expr, FieldList, FormalPars, Mark, Pos, Qualident, Section, TypeNode};
 use ob_types::{Desc, TypeRef};
@@ -36,8 +37,9 @@ use std::alloc::{AllocError, Global};
 /// that it names does. What is broken, and what it names, is noted in the book; what stands around
 /// stays.
 #[cycle(types)]
-pub fn check_type<E: Imports>(
+pub fn check_type<E: Imports, C: CheckExpr>(
     alloc: Global,
+    checker: &C,
     scope: &mut Scope<'_, E>,
     book: &mut Notebook,
     node: &TypeNode,
@@ -57,6 +59,7 @@ pub fn check_type<E: Imports>(
             element,
         } => array_type(
             alloc,
+            checker,
             scope,
             book,
             name,
@@ -70,19 +73,29 @@ pub fn check_type<E: Imports>(
             pos: _,
             base,
             fields,
-        } => record_type(alloc, scope, book, name, mark, base, fields.as_slice()),
+        } => record_type(
+            alloc,
+            checker,
+            scope,
+            book,
+            name,
+            mark,
+            base,
+            fields.as_slice(),
+        ),
         TypeNode::Pointer { pos: _, base } => {
-            pointer_type(alloc, scope, book, name, mark, base.get())
+            pointer_type(alloc, checker, scope, book, name, mark, base.get())
         }
         TypeNode::Procedure { pos: _, parameters } => {
-            procedure_type(alloc, scope, book, name, mark, parameters)
+            procedure_type(alloc, checker, scope, book, name, mark, parameters)
         }
     }
 }
 
 #[cycle(types)]
-fn array_type<E: Imports>(
+fn array_type<E: Imports, C: CheckExpr>(
     alloc: Global,
+    checker: &C,
     scope: &mut Scope<'_, E>,
     book: &mut Notebook,
     name: &[u8],
@@ -97,16 +110,23 @@ fn array_type<E: Imports>(
     ensures stays { OnOk result (around_of E.types scope.new ≡ around_of E.types scope.old) }
 {
     match lengths {
-        [] => open_array(alloc, scope, book, name, mark, at, open_ok, element),
-        [first, rest @ ..] => { fixed_array(alloc, scope, book, name, mark, element, first, rest) }
+        [] => open_array(
+            alloc, checker, scope, book, name, mark, at, open_ok, element,
+        ),
+        [first, rest @ ..] => {
+            fixed_array(
+                alloc, checker, scope, book, name, mark, element, first, rest,
+            )
+        }
     }
 }
 
 // Arrays of arrays of these lengths, all but the outermost.
 #[cycle(types)]
 #[tactic(auto, using(ob_rules::proofs::BookLaws::after_none, ob_rules::proofs::BookLaws::after_joined, crate::proofs::ArrayLaws::fixed_node, crate::proofs::ArrayLaws::fixed_notes))]
-fn inner_arrays<E: Imports>(
+fn inner_arrays<E: Imports, C: CheckExpr>(
     alloc: Global,
+    checker: &C,
     scope: &mut Scope<'_, E>,
     book: &mut Notebook,
     name: &[u8],
@@ -117,10 +137,11 @@ fn inner_arrays<E: Imports>(
     ensures noted { OnOk result (book.new ≡ book_after book.old (spec.fixed_array (around_of E.types scope.old) name.now mark_is.Hidden (map phrase_of lengths.now) (spec.written element.now)).notes) }
     ensures stays { OnOk result (around_of E.types scope.new ≡ around_of E.types scope.old) }
 {
-    let sizes = lengths_of(alloc, &*scope, book, lengths)?;
+    let sizes = lengths_of(alloc, checker, &*scope, book, lengths)?;
     let inner = inner_name(alloc, name, lengths)?;
     let of = check_type(
         alloc,
+        checker,
         scope,
         book,
         element,
@@ -134,8 +155,9 @@ fn inner_arrays<E: Imports>(
 
 #[cycle(types)]
 #[tactic(auto, using(ob_rules::proofs::BookLaws::after_none, ob_rules::proofs::BookLaws::after_joined, crate::proofs::ArrayLaws::fixed_first))]
-fn fixed_array<E: Imports>(
+fn fixed_array<E: Imports, C: CheckExpr>(
     alloc: Global,
+    checker: &C,
     scope: &mut Scope<'_, E>,
     book: &mut Notebook,
     name: &[u8],
@@ -148,16 +170,17 @@ fn fixed_array<E: Imports>(
     ensures noted { OnOk result (book.new ≡ book_after book.old (spec.fixed_array (around_of E.types scope.old) name.now mark (phrase_of first.now ∷ map phrase_of rest.now) (spec.written element.now)).notes) }
     ensures stays { OnOk result (around_of E.types scope.new ≡ around_of E.types scope.old) }
 {
-    let length = array_length(alloc, &*scope, book, first)?;
+    let length = array_length(alloc, checker, &*scope, book, first)?;
     let inner = element_name(alloc, name)?;
-    let of = inner_arrays(alloc, scope, book, inner.as_bytes(), element, rest)?;
+    let of = inner_arrays(alloc, checker, scope, book, inner.as_bytes(), element, rest)?;
     let array = array_of(alloc, &*scope, name, mark, length, of)?;
     Ok(array)
 }
 
 #[cycle(types)]
-fn open_element<E: Imports>(
+fn open_element<E: Imports, C: CheckExpr>(
     alloc: Global,
+    checker: &C,
     scope: &mut Scope<'_, E>,
     book: &mut Notebook,
     name: &[u8],
@@ -172,6 +195,7 @@ fn open_element<E: Imports>(
     let open_ok = is_open_array(element);
     match check_type(
         alloc,
+        checker,
         scope,
         book,
         element,
@@ -189,8 +213,9 @@ fn open_element<E: Imports>(
 }
 
 #[cycle(types)]
-fn open_array<E: Imports>(
+fn open_array<E: Imports, C: CheckExpr>(
     alloc: Global,
+    checker: &C,
     scope: &mut Scope<'_, E>,
     book: &mut Notebook,
     name: &[u8],
@@ -205,15 +230,16 @@ fn open_array<E: Imports>(
 {
     if !open_ok || is_open_array(element) {
         book.breaks(Rule::MisplacedOpenArray, at);
-        let _ = open_element(alloc, scope, book, name, mark, element)?;
+        let _ = open_element(alloc, checker, scope, book, name, mark, element)?;
         return Ok(None);
     }
-    open_element(alloc, scope, book, name, mark, element)
+    open_element(alloc, checker, scope, book, name, mark, element)
 }
 
 #[cycle(types)]
-fn pointed_type<E: Imports>(
+fn pointed_type<E: Imports, C: CheckExpr>(
     alloc: Global,
+    checker: &C,
     scope: &mut Scope<'_, E>,
     book: &mut Notebook,
     name: &[u8],
@@ -227,6 +253,7 @@ fn pointed_type<E: Imports>(
     let inline = name_of(base).is_none();
     match check_type(
         alloc,
+        checker,
         scope,
         book,
         base,
@@ -240,8 +267,9 @@ fn pointed_type<E: Imports>(
 }
 
 #[cycle(types)]
-fn plain_pointer<E: Imports>(
+fn plain_pointer<E: Imports, C: CheckExpr>(
     alloc: Global,
+    checker: &C,
     scope: &mut Scope<'_, E>,
     book: &mut Notebook,
     name: &[u8],
@@ -252,7 +280,7 @@ fn plain_pointer<E: Imports>(
     ensures noted { OnOk result (book.new ≡ book_after book.old (spec.pointer_by (around_of E.types scope.old) name.now mark (spec.written base.now) None).notes) }
     ensures stays { OnOk result (around_of E.types scope.new ≡ around_of E.types scope.old) }
 {
-    match pointed_type(alloc, scope, book, name, base)? {
+    match pointed_type(alloc, checker, scope, book, name, base)? {
         None => Ok(None),
         Some(t) => {
             let pointer = pointer_to(alloc, &*scope, name, mark, t)?;
@@ -262,8 +290,9 @@ fn plain_pointer<E: Imports>(
 }
 
 #[cycle(types)]
-fn pointer_type<E: Imports>(
+fn pointer_type<E: Imports, C: CheckExpr>(
     alloc: Global,
+    checker: &C,
     scope: &mut Scope<'_, E>,
     book: &mut Notebook,
     name: &[u8],
@@ -275,7 +304,7 @@ fn pointer_type<E: Imports>(
     ensures stays { OnOk result (around_of E.types scope.new ≡ around_of E.types scope.old) }
 {
     match later_type(&*scope, &name_of(base)) {
-        None => plain_pointer(alloc, scope, book, name, mark, base),
+        None => plain_pointer(alloc, checker, scope, book, name, mark, base),
         Some(x) => {
             let pointer = later_pointer(alloc, &*scope, book, name, mark, &x)?;
             Ok(Some(pointer))
@@ -286,8 +315,9 @@ fn pointer_type<E: Imports>(
 // The fields of one list.
 #[cycle(types)]
 #[tactic(auto, using(ob_rules::proofs::BookLaws::after_none, ob_rules::proofs::BookLaws::after_joined, crate::proofs::ListLaws::list_node, crate::proofs::ListLaws::list_notes))]
-fn list_of_fields<E: Imports>(
+fn list_of_fields<E: Imports, C: CheckExpr>(
     alloc: Global,
+    checker: &C,
     scope: &mut Scope<'_, E>,
     book: &mut Notebook,
     name: &[u8],
@@ -304,6 +334,7 @@ fn list_of_fields<E: Imports>(
     let inner = field_name(alloc, name, first_name(names))?;
     let typed = check_type(
         alloc,
+        checker,
         scope,
         book,
         &list.node,
@@ -317,8 +348,9 @@ fn list_of_fields<E: Imports>(
 
 // The fields of a record, in order.
 #[cycle(types)]
-fn all_fields<E: Imports>(
+fn all_fields<E: Imports, C: CheckExpr>(
     alloc: Global,
+    checker: &C,
     scope: &mut Scope<'_, E>,
     book: &mut Notebook,
     name: &[u8],
@@ -332,7 +364,7 @@ fn all_fields<E: Imports>(
     let mut before = Stack::new(alloc);
     let mut all = Some(no_fields(alloc));
     'lists: for list in lists {
-        let more = list_of_fields(alloc, scope, book, name, base, &mut before, list)?;
+        let more = list_of_fields(alloc, checker, scope, book, name, base, &mut before, list)?;
         all = joined_fields(all, more)?;
     }
     Ok(all)
@@ -340,8 +372,9 @@ fn all_fields<E: Imports>(
 
 #[cycle(types)]
 #[tactic(auto, using(ob_rules::proofs::BookLaws::after_none, ob_rules::proofs::BookLaws::after_joined, ob_cdecl_field::proofs::FieldLaws::record_node, ob_cdecl_field::proofs::FieldLaws::record_notes))]
-fn record_type<E: Imports>(
+fn record_type<E: Imports, C: CheckExpr>(
     alloc: Global,
+    checker: &C,
     scope: &mut Scope<'_, E>,
     book: &mut Notebook,
     name: &[u8],
@@ -354,14 +387,15 @@ fn record_type<E: Imports>(
     ensures stays { OnOk result (around_of E.types scope.new ≡ around_of E.types scope.old) }
 {
     let base = base_if(alloc, &*scope, book, base)?;
-    let fields = all_fields(alloc, scope, book, name, &base, lists)?;
+    let fields = all_fields(alloc, checker, scope, book, name, &base, lists)?;
     record_of(alloc, &*scope, name, mark, base, fields)
 }
 
 // A section of parameters, of which the first has that number.
 #[cycle(types)]
-fn section<E: Imports>(
+fn section<E: Imports, C: CheckExpr>(
     alloc: Global,
+    checker: &C,
     scope: &mut Scope<'_, E>,
     book: &mut Notebook,
     name: &[u8],
@@ -375,6 +409,7 @@ fn section<E: Imports>(
     let inner = section_name(alloc, name, number)?;
     let typed = check_type(
         alloc,
+        checker,
         scope,
         book,
         &written.node,
@@ -395,8 +430,9 @@ fn section<E: Imports>(
 // Sections of parameters, in order. The types that they make are around for those behind them, and
 // no longer.
 #[cycle(types)]
-fn all_sections<E: Imports>(
+fn all_sections<E: Imports, C: CheckExpr>(
     alloc: Global,
+    checker: &C,
     scope: &mut Scope<'_, E>,
     book: &mut Notebook,
     name: &[u8],
@@ -410,7 +446,7 @@ fn all_sections<E: Imports>(
     let mut all = Some(no_parameters(alloc));
     let mut number = 1;
     'sections: for written in sections {
-        let more = section(alloc, scope, book, name, number, written)?;
+        let more = section(alloc, checker, scope, book, name, number, written)?;
         all = joined_parameters(all, more)?;
         number = number_behind(number, written.names.len())?;
     }
@@ -420,8 +456,9 @@ fn all_sections<E: Imports>(
 
 #[cycle(types)]
 #[tactic(auto, using(ob_rules::proofs::BookLaws::after_none, ob_rules::proofs::BookLaws::after_joined, crate::proofs::HeadingLaws::procedure_node, crate::proofs::HeadingLaws::procedure_notes))]
-fn procedure_type<E: Imports>(
+fn procedure_type<E: Imports, C: CheckExpr>(
     alloc: Global,
+    checker: &C,
     scope: &mut Scope<'_, E>,
     book: &mut Notebook,
     name: &[u8],
@@ -434,7 +471,7 @@ fn procedure_type<E: Imports>(
 {
     let outer = scope.mark();
     scope.enter()?;
-    let parameters = check_parameters(alloc, scope, book, written, name)?;
+    let parameters = check_parameters(alloc, checker, scope, book, written, name)?;
     scope.leave(outer);
     procedure_of(alloc, &*scope, name, mark, parameters)
 }
@@ -444,8 +481,9 @@ fn procedure_type<E: Imports>(
 /// name, is noted in the book; from here on they are known.
 #[cycle(types)]
 #[tactic(auto, using(ob_rules::proofs::BookLaws::after_none, ob_rules::proofs::BookLaws::after_joined, crate::proofs::HeadingLaws::heading_node, crate::proofs::HeadingLaws::heading_notes, crate::proofs::HeadingLaws::heading_known))]
-pub fn check_parameters<E: Imports>(
+pub fn check_parameters<E: Imports, C: CheckExpr>(
     alloc: Global,
+    checker: &C,
     scope: &mut Scope<'_, E>,
     book: &mut Notebook,
     written: &FormalPars,
@@ -455,7 +493,14 @@ pub fn check_parameters<E: Imports>(
     ensures noted { OnOk result (book.new ≡ book_after book.old (spec.parameters_in (around_of E.types scope.old) name.now (spec.written_parameters written.now)).found.notes) }
     ensures known { OnOk result (around_of E.types scope.new ≡ record (around_of E.types scope.old) { known = (spec.parameters_in (around_of E.types scope.old) name.now (spec.written_parameters written.now)).known }) }
 {
-    let all = all_sections(alloc, scope, book, name, written.sections.as_slice())?;
+    let all = all_sections(
+        alloc,
+        checker,
+        scope,
+        book,
+        name,
+        written.sections.as_slice(),
+    )?;
     let result_type = result_of(alloc, &*scope, book, &written.result_type)?;
     Ok(with_result(all, result_type))
 }

@@ -12,7 +12,7 @@ use Rattle.ob_tree.specs.declared.expr.Element.{Element}
 use Rattle.ob_tree.specs.declared.expr.Designator.{Designator}
 use Rattle.ob_tree.specs.declared.expr.Selector.TheVariants as s
 use Rattle.ob_tree.specs.declared.expr.Expr.TheOpen.{Expr-F, Selector-F}
-use Rattle.ob_tree.specs.declared.expr.Expr.TheFolds.{fold-roll-Expr, fold-roll-Selector, fold_out-Designator}
+use Rattle.ob_tree.specs.declared.expr.Expr.TheFolds.{fold-roll-Expr, fold-roll-Selector}
 use Rattle.ob_types.specs.declared.value.Value.TheVariants as literal
 use Rattle.ob_rules.specs.declared.values.Valued.{Valued}
 use Rattle.ob_rules.specs.declared.meant.Where.TheVariants.{InExpression}
@@ -52,10 +52,6 @@ value_chain x ts u = ap (λ p. p.value u) (ap phrase_of (sym (e.rolls-Chain x ts
 
 pub value_relate : (l : Expr) (op : Relation) (at : Pos) (r : Expr) (u : Around) → (phrase_of (e.Relate l op at r)).value u ≡ relation_of u op at ((phrase_of l).value u) (phrase_of r)
 value_relate l op at r u = ap (λ p. p.value u) (ap phrase_of (sym (e.rolls-Relate l op at r)) ∙ fold-roll-Expr Phrase Behind Named Ranged Tailed expr_rule selector_rule designator_rule element_rule tail_rule (Expr-F.Relate l op at r))
-
--- a designator by its name and its selectors
-pub named_is : (d : Designator) → named_of d ≡ record { ident = d.ident; behind = map behind_of d.selectors }
-named_is d = fold_out-Designator Phrase Behind Named Ranged Tailed expr_rule selector_rule designator_rule element_rule tail_rule d
 
 pub behind_index : (at : Pos) (i : Expr) → behind_of (s.Index at i) ≡ Index at (phrase_of i)
 behind_index at i = ap behind_of (sym (s.rolls-Index at i)) ∙ fold-roll-Selector Phrase Behind Named Ranged Tailed expr_rule selector_rule designator_rule element_rule tail_rule (Selector-F.Index at i)

@@ -7,7 +7,7 @@ use Rattle.ob_tree.specs.declared.ident.Ident.{Ident}
 use Rattle.ob_tree.specs.declared.expr.Designator.{Designator}
 use Rattle.ob_tree.specs.declared.expr.Selector.{Selector}
 use Rattle.ob_rules.specs.Expressions.{behind_of, named_of, meant_by}
-use Rattle.ob_cexpr.proofs.ExprViews.{named_is}
+use Rattle.ob_cexpr_trait.proofs.NamedViews.{named_is}
 use Rattle.ob_cexpr.proofs.Chains.{map_over}
 use Rattle.ob_types.specs.declared.types.TypeRef.{TypeRef}
 use Rattle.ob_rules.specs.declared.notes.Notebook.{Notebook}

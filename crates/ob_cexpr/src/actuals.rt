@@ -10,7 +10,8 @@ ghost use Rattle.ob_cexpr_arguments.specs.Arguments.{argument_of, argument_says}
 use crate::designators::check_designator;
 use crate::walk::check_expr;
 use ob_cexpr_arguments::{Argument, with_actual};
-use ob_cexpr_operand::{formal_at, start_of};
+use ob_cexpr_operand::formal_at;
+use ob_cexpr_trait::start_of;
 use ob_rules::{Notebook, Surroundings, Where};
 use ob_tree::Expr;
 use ob_types::{Mode, TypeRef};

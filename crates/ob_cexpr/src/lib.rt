@@ -4,10 +4,11 @@
 
 mod actuals;
 mod calls;
+mod checker;
 mod designators;
 mod predeclared;
 mod walk;
 
+pub use checker::ExprChecker;
 pub use designators::check_designator;
-pub use ob_cexpr_operand::{name_in, start_of};
 pub use walk::{check_constant, check_expr};

@@ -15,9 +15,10 @@ ghost use Rattle.ob_cexpr.specs.Plain.{elements_judged, set_judged};
 use crate::designators::check_designator;
 use ob_cexpr_operand::{
     bracketed, character, combined_if, constant_if, element_if, integer, name_in, name_value,
-    opposite_if, other_test, related_if, row_with, set_if, signed_if, start_of, string, there,
-    type_test, value_if,
+    opposite_if, other_test, related_if, row_with, set_if, signed_if, string, there, type_test,
+    value_if,
 };
+use ob_cexpr_trait::start_of;
 use ob_rules::{ElementOf, Notebook, Surroundings, Valued, Where};
 use ob_tree::{Designator, Element, Expr, Pos, Relation, Sign, Tail};
 use ob_types::Value;

@@ -13,9 +13,7 @@ mod values;
 pub use literals::{character, integer, string};
 pub use names::name_value;
 pub use operands::{bracketed, combined_if, opposite_if, related_if, signed_if};
-pub use phrases::{
-    formal_at, is_one_type, name_behind, name_in, start_of, type_in_round, where_behind,
-};
+pub use phrases::{formal_at, is_one_type, name_behind, name_in, type_in_round, where_behind};
 pub use selectors::{guard_misfit, guard_named, index_step, select_step, up_step};
 pub use tests::{other_test, type_test};
 pub use values::{

@@ -8,7 +8,7 @@ ghost use Rattle.ob_rules.specs.Expressions as spec;
 
 use ob_cexpr_name::is_type_name;
 use ob_rules::{Surroundings, Where};
-use ob_tree::{Designator, Expr, Ident, Pos, Qualident, Selector};
+use ob_tree::{Designator, Expr, Ident, Qualident, Selector};
 use ob_types::{Mode, TypeRef};
 
 // The name, where nothing but a name behind a dot stands behind it.
@@ -44,25 +44,6 @@ pub fn name_in(e: &Expr) -> Option<Qualident>
         | Expr::Signed { .. }
         | Expr::Chain { .. }
         | Expr::Relate { .. } => None,
-    }
-}
-
-/// Where the first symbol of an expression stands. Takes no memory.
-pub fn start_of(e: &Expr) -> Pos
-    ensures { result ≡ (spec.phrase_of e.now).start }
-{
-    match e {
-        Expr::Designator(d) => d.ident.pos(),
-        Expr::Int { pos, .. } => *pos,
-        Expr::Char { pos, .. } => *pos,
-        Expr::Str { pos, .. } => *pos,
-        Expr::Nil(pos) => *pos,
-        Expr::Set { pos, .. } => *pos,
-        Expr::Paren { pos, .. } => *pos,
-        Expr::Not { pos, .. } => *pos,
-        Expr::Signed { pos, .. } => *pos,
-        Expr::Chain { operand, .. } => start_of(operand.get()),
-        Expr::Relate { left, .. } => start_of(left.get()),
     }
 }
 

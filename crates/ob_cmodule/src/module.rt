@@ -20,6 +20,7 @@ use ob_cdecl::{Contents, all_described, coming_within, imports_declared, name_ju
 use ob_cdecl_block::block;
 use ob_cdecl_bound::is_deep;
 use ob_cdecl_scopes::{Imports, Scope};
+use ob_cexpr::ExprChecker;
 use ob_rules::{Broken, Notebook};
 use ob_tree::{Decl, Ident, Import, Module, Stmt};
 use ob_types_trees::ModuleTree;
@@ -69,7 +70,7 @@ fn judge_parts<E: Imports>(
 {
     name_judged(book, name, closing);
     imports_declared(alloc, scope, book, imports)?;
-    block(alloc, scope, book, contents, decls, body)?;
+    block(alloc, &ExprChecker, scope, book, contents, decls, body)?;
     Ok(())
 }
 

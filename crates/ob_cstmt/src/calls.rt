@@ -15,13 +15,13 @@ ghost use Rattle.ob_rules.specs.declared.meant.Meant.TheVariants as means;
 ghost use Rattle.ob_rules.specs.declared.meant.Where.TheVariants.{AsStatement};
 ghost use Rattle.ob_cstmt_parts.specs.Seen.{stmt_in};
 
-use ob_cexpr::check_designator;
 use ob_cexpr_call::{
     call_bound, call_out, call_procedure, call_variable, is_nearest_sound, is_receiver_read_only,
     unless_broken,
 };
 use ob_cexpr_name::{tree_of, types};
 use ob_cexpr_predeclared::is_function;
+use ob_cexpr_trait::CheckExpr;
 use ob_rules::{Chosen, Meant, Notebook, Place, Predeclared, Rule, Surroundings, Valued, Where};
 use ob_tree::{Designator, Pos, QName, Selector};
 use ob_types::{OutProcedure, Signature, signature_within};
@@ -219,8 +219,9 @@ fn called<S: Surroundings>(
 }
 
 /// A call, with or without round brackets. Rules 3 and 27, and those of the designator.
-pub fn call_statement<S: Surroundings>(
+pub fn call_statement<S: Surroundings, C: CheckExpr>(
     alloc: Global,
+    checker: &C,
     here: &S,
     book: &mut Notebook,
     designator: &Designator,
@@ -228,7 +229,7 @@ pub fn call_statement<S: Surroundings>(
     ensures made { IfOk result (λ r. stmt_in r ≡ (spec.call_statement (exprs.named_of designator.now) (S.around here.now)).node) }
     ensures noted { OnOk result (book.new ≡ book_after book.old (spec.call_statement (exprs.named_of designator.now) (S.around here.now)).notes) }
 {
-    match check_designator(alloc, here, book, Where::AsStatement, designator)? {
+    match checker.check_designator(alloc, here, book, Where::AsStatement, designator)? {
         None => Ok(None),
         Some(meant) => called(alloc, here, book, designator, meant),
     }

@@ -9,15 +9,16 @@ ghost use Rattle.ob_rules.specs.Phrases.{Dot};
 ghost use Rattle.ob_rules.specs.declared.meant.Where.TheVariants.{InExpression};
 ghost use Rattle.ob_cstmt_parts.specs.Seen.{test_in};
 
-use ob_cexpr::check_designator;
 use ob_cexpr_name::{named, type_named, types};
+use ob_cexpr_trait::CheckExpr;
 use ob_cstmt_parts::{Test, first_of, guarded_if, tested_if};
 use ob_rules::{Entity, Meant, Notebook, Place, Rule, Surroundings, Where};
 use ob_tree::{Designator, Guard, Ident, List, Mention, Qualident, Selector};
 use std::alloc::{AllocError, Global};
 
-fn plain<S: Surroundings>(
+fn plain<S: Surroundings, C: CheckExpr>(
     alloc: Global,
+    checker: &C,
     here: &S,
     book: &mut Notebook,
     x: &Ident,
@@ -29,11 +30,12 @@ fn plain<S: Surroundings>(
         ident: Mention::of(alloc, x)?,
         selectors: List::new(alloc),
     };
-    check_designator(alloc, here, book, Where::InExpression, &designator)
+    checker.check_designator(alloc, here, book, Where::InExpression, &designator)
 }
 
-fn qualified<S: Surroundings>(
+fn qualified<S: Surroundings, C: CheckExpr>(
     alloc: Global,
+    checker: &C,
     here: &S,
     book: &mut Notebook,
     unit: &Ident,
@@ -51,11 +53,12 @@ fn qualified<S: Surroundings>(
         ident: Mention::of(alloc, unit)?,
         selectors,
     };
-    check_designator(alloc, here, book, Where::InExpression, &designator)
+    checker.check_designator(alloc, here, book, Where::InExpression, &designator)
 }
 
-fn in_unit<S: Surroundings>(
+fn in_unit<S: Surroundings, C: CheckExpr>(
     alloc: Global,
+    checker: &C,
     here: &S,
     book: &mut Notebook,
     unit: &Ident,
@@ -66,7 +69,7 @@ fn in_unit<S: Surroundings>(
     ensures noted { OnOk result (book.new ≡ book_after book.old (spec.with_module (S.around here.now) unit.now x.now entity.now).notes) }
 {
     match entity {
-        Entity::Module(_) => qualified(alloc, here, book, unit, x),
+        Entity::Module(_) => qualified(alloc, checker, here, book, unit, x),
         Entity::Variable(_, _)
         | Entity::TypeName(_)
         | Entity::Constant(_)
@@ -81,8 +84,9 @@ fn in_unit<S: Surroundings>(
     }
 }
 
-fn in_named<S: Surroundings>(
+fn in_named<S: Surroundings, C: CheckExpr>(
     alloc: Global,
+    checker: &C,
     here: &S,
     book: &mut Notebook,
     unit: &Ident,
@@ -93,12 +97,13 @@ fn in_named<S: Surroundings>(
 {
     match named(here, book, unit) {
         None => Ok(None),
-        Some(entity) => in_unit(alloc, here, book, unit, x, entity),
+        Some(entity) => in_unit(alloc, checker, here, book, unit, x, entity),
     }
 }
 
-fn behind_unit<S: Surroundings>(
+fn behind_unit<S: Surroundings, C: CheckExpr>(
     alloc: Global,
+    checker: &C,
     here: &S,
     book: &mut Notebook,
     unit: &Ident,
@@ -124,13 +129,14 @@ fn behind_unit<S: Surroundings>(
             | Entity::Forward(_, _)
             | Entity::Predeclared(_)
             | Entity::LeftOut
-            | Entity::Unsound => in_named(alloc, here, book, unit, x),
+            | Entity::Unsound => in_named(alloc, checker, here, book, unit, x),
         },
     }
 }
 
-fn guarded_name<S: Surroundings>(
+fn guarded_name<S: Surroundings, C: CheckExpr>(
     alloc: Global,
+    checker: &C,
     here: &S,
     book: &mut Notebook,
     name: &Qualident,
@@ -139,13 +145,14 @@ fn guarded_name<S: Surroundings>(
     ensures noted { OnOk result (book.new ≡ book_after book.old (spec.with_meant (S.around here.now) name.now.qualifier name.now.ident).notes) }
 {
     match &name.qualifier {
-        None => plain(alloc, here, book, &name.ident),
-        Some(unit) => behind_unit(alloc, here, book, unit, &name.ident),
+        None => plain(alloc, checker, here, book, &name.ident),
+        Some(unit) => behind_unit(alloc, checker, here, book, unit, &name.ident),
     }
 }
 
-fn guarded_place<S: Surroundings>(
+fn guarded_place<S: Surroundings, C: CheckExpr>(
     alloc: Global,
+    checker: &C,
     here: &S,
     book: &mut Notebook,
     guard: &Guard,
@@ -153,13 +160,14 @@ fn guarded_place<S: Surroundings>(
     ensures made { IfOk result (λ r. r ≡ (spec.with_variable (S.around here.now) guard.now).node) }
     ensures noted { OnOk result (book.new ≡ book_after book.old (spec.with_variable (S.around here.now) guard.now).notes) }
 {
-    let meant = guarded_name(alloc, here, book, &guard.variable)?;
+    let meant = guarded_name(alloc, checker, here, book, &guard.variable)?;
     Ok(guarded_if(types(here), book, first_of(&guard.variable), meant))
 }
 
 /// A guard of WITH. Rule 37, and those of its names.
-pub fn check_guard<S: Surroundings>(
+pub fn check_guard<S: Surroundings, C: CheckExpr>(
     alloc: Global,
+    checker: &C,
     here: &S,
     book: &mut Notebook,
     guard: &Guard,
@@ -167,7 +175,7 @@ pub fn check_guard<S: Surroundings>(
     ensures made { IfOk result (λ r. test_in r ≡ (spec.with_test (S.around here.now) guard.now).node) }
     ensures noted { OnOk result (book.new ≡ book_after book.old (spec.with_test (S.around here.now) guard.now).notes) }
 {
-    let place = guarded_place(alloc, here, book, guard)?;
+    let place = guarded_place(alloc, checker, here, book, guard)?;
     let of = type_named(alloc, here, book, &guard.target)?;
     tested_if(
         alloc,

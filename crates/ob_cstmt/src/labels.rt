@@ -5,8 +5,8 @@ ghost use Rattle.ob_rules.specs.Books.{book_after};
 ghost use Rattle.ob_rules.specs.Expressions as exprs;
 ghost use Rattle.ob_rules.specs.Statements as spec;
 
-use ob_cexpr::{check_constant, check_expr, start_of};
 use ob_cexpr_name::types;
+use ob_cexpr_trait::{CheckExpr, start_of};
 use ob_cstmt_parts::{add_label, case_value_if, label_if, selects_if, with_label};
 use ob_rules::{Notebook, Selects, Surroundings, Valued};
 use ob_tree::{Boxed, Element, Expr, List};
@@ -14,8 +14,9 @@ use ob_types::{Label, Types, Value};
 use std::alloc::{AllocError, Global};
 
 // The value of CASE. Rule 33, and those of the expression.
-fn case_value<S: Surroundings>(
+fn case_value<S: Surroundings, C: CheckExpr>(
     alloc: Global,
+    checker: &C,
     here: &S,
     book: &mut Notebook,
     x: &Expr,
@@ -23,7 +24,7 @@ fn case_value<S: Surroundings>(
     ensures made { IfOk result (λ r. r ≡ (spec.case_judged (S.around here.now) (exprs.phrase_of x.now)).node) }
     ensures noted { OnOk result (book.new ≡ book_after book.old (spec.case_judged (S.around here.now) (exprs.phrase_of x.now)).notes) }
 {
-    let value = check_expr(alloc, here, book, x)?;
+    let value = checker.check_expr(alloc, here, book, x)?;
     Ok(case_value_if(types(here), book, start_of(x), value))
 }
 
@@ -40,8 +41,9 @@ fn boxed(alloc: Global, value: Option<Valued>) -> Result<Option<Boxed<Valued>>, 
 }
 
 /// The value of CASE, in a box. Rule 33, and those of the expression.
-pub fn boxed_case_value<S: Surroundings>(
+pub fn boxed_case_value<S: Surroundings, C: CheckExpr>(
     alloc: Global,
+    checker: &C,
     here: &S,
     book: &mut Notebook,
     x: &Expr,
@@ -49,7 +51,7 @@ pub fn boxed_case_value<S: Surroundings>(
     ensures made { IfOk result (λ r. r ≡ (spec.case_judged (S.around here.now) (exprs.phrase_of x.now)).node) }
     ensures noted { OnOk result (book.new ≡ book_after book.old (spec.case_judged (S.around here.now) (exprs.phrase_of x.now)).notes) }
 {
-    let value = case_value(alloc, here, book, x)?;
+    let value = case_value(alloc, checker, here, book, x)?;
     boxed(alloc, value)
 }
 
@@ -74,8 +76,9 @@ pub fn case_selects<T: Types>(types: &T, value: &Option<Boxed<Valued>>) -> Optio
 }
 
 // The upper bound of a label, none where it has no other.
-fn check_high<S: Surroundings>(
+fn check_high<S: Surroundings, C: CheckExpr>(
     alloc: Global,
+    checker: &C,
     here: &S,
     book: &mut Notebook,
     high: &Option<Expr>,
@@ -85,15 +88,16 @@ fn check_high<S: Surroundings>(
 {
     match high {
         None => Ok(Some(None)),
-        Some(high) => match check_constant(alloc, here, book, high)? {
+        Some(high) => match checker.check_constant(alloc, here, book, high)? {
             None => Ok(None),
             Some(high) => Ok(Some(Some(high))),
         },
     }
 }
 
-fn check_bounds<S: Surroundings>(
+fn check_bounds<S: Surroundings, C: CheckExpr>(
     alloc: Global,
+    checker: &C,
     here: &S,
     book: &mut Notebook,
     selects: Option<Selects>,
@@ -105,15 +109,16 @@ fn check_bounds<S: Surroundings>(
     ensures noted { OnOk result (book.new ≡ book_after book.old (spec.label (S.around here.now) selects before.now (record { low = exprs.phrase_of low.now; high = spec.phrase_if high.now })).notes) }
 {
     let start = start_of(low);
-    let lower = check_constant(alloc, here, book, low)?;
-    let upper = check_high(alloc, here, book, high)?;
+    let lower = checker.check_constant(alloc, here, book, low)?;
+    let upper = check_high(alloc, checker, here, book, high)?;
     Ok(label_if(book, selects, start, before, lower, upper))
 }
 
 /// A label. Rule 33, and those of its bounds.
 #[tactic(auto, using(crate::proofs::StmtViews::ranged_is))]
-fn check_label<S: Surroundings>(
+fn check_label<S: Surroundings, C: CheckExpr>(
     alloc: Global,
+    checker: &C,
     here: &S,
     book: &mut Notebook,
     selects: Option<Selects>,
@@ -125,6 +130,7 @@ fn check_label<S: Surroundings>(
 {
     check_bounds(
         alloc,
+        checker,
         here,
         book,
         selects,
@@ -136,8 +142,9 @@ fn check_label<S: Surroundings>(
 
 /// The labels of one alternative, after those before it, which they join. Rule 33, and those of
 /// their bounds.
-pub fn check_labels<S: Surroundings>(
+pub fn check_labels<S: Surroundings, C: CheckExpr>(
     alloc: Global,
+    checker: &C,
     here: &S,
     book: &mut Notebook,
     selects: Option<Selects>,
@@ -150,7 +157,15 @@ pub fn check_labels<S: Surroundings>(
 {
     let mut all = Some(List::new(alloc));
     'labels: for element in labels {
-        let label = check_label(alloc, here, book, selects, before.as_slice(), element)?;
+        let label = check_label(
+            alloc,
+            checker,
+            here,
+            book,
+            selects,
+            before.as_slice(),
+            element,
+        )?;
         add_label(before, label)?;
         all = with_label(all, label)?;
     }

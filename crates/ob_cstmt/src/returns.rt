@@ -6,8 +6,8 @@ ghost use Rattle.ob_rules.specs.Expressions as exprs;
 ghost use Rattle.ob_rules.specs.Statements as spec;
 ghost use Rattle.ob_cstmt_parts.specs.Seen.{stmt_in};
 
-use ob_cexpr::check_expr;
 use ob_cexpr_name::types;
+use ob_cexpr_trait::CheckExpr;
 use ob_cstmt_parts::{return_alone, returned};
 use ob_rules::{Notebook, Surroundings};
 use ob_tree::{Expr, Pos};
@@ -15,8 +15,9 @@ use ob_types_trees::StmtTree;
 use std::alloc::{AllocError, Global};
 
 /// RETURN with a value. Rule 36, and those of the value.
-fn return_value<S: Surroundings>(
+fn return_value<S: Surroundings, C: CheckExpr>(
     alloc: Global,
+    checker: &C,
     here: &S,
     book: &mut Notebook,
     at: Pos,
@@ -25,15 +26,16 @@ fn return_value<S: Surroundings>(
     ensures made { IfOk result (λ r. stmt_in r ≡ (spec.return_of (S.around here.now) at (exprs.phrase_of x.now)).node) }
     ensures noted { OnOk result (book.new ≡ book_after book.old (spec.return_of (S.around here.now) at (exprs.phrase_of x.now)).notes) }
 {
-    match check_expr(alloc, here, book, x)? {
+    match checker.check_expr(alloc, here, book, x)? {
         None => Ok(None),
         Some(value) => Ok(returned(types(here), book, at, here.result_type(), value)),
     }
 }
 
 /// RETURN. Rule 36, and those of the value.
-pub fn check_return<S: Surroundings>(
+pub fn check_return<S: Surroundings, C: CheckExpr>(
     alloc: Global,
+    checker: &C,
     here: &S,
     book: &mut Notebook,
     at: Pos,
@@ -44,6 +46,6 @@ pub fn check_return<S: Surroundings>(
 {
     match value {
         None => Ok(return_alone(here, book, at)),
-        Some(value) => return_value(alloc, here, book, at, value),
+        Some(value) => return_value(alloc, checker, here, book, at, value),
     }
 }

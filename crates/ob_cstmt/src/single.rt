@@ -14,6 +14,7 @@ use crate::assign::assignment;
 use crate::calls::call_statement;
 use crate::labels::unboxed;
 use crate::returns::check_return;
+use ob_cexpr_trait::CheckExpr;
 use ob_cstmt_parts::{alone, case_made, exit, if_made, with_made};
 use ob_rules::{Notebook, Surroundings, Valued};
 use ob_tree::{Boxed, Designator, Expr, Pos};
@@ -21,8 +22,9 @@ use ob_types_trees::{BranchTrees, CaseTrees, StmtTrees};
 use std::alloc::{AllocError, Global};
 
 /// A call. The rules are those of `call_statement`.
-pub fn call_alone<S: Surroundings>(
+pub fn call_alone<S: Surroundings, C: CheckExpr>(
     alloc: Global,
+    checker: &C,
     here: &S,
     book: &mut Notebook,
     designator: &Designator,
@@ -30,13 +32,14 @@ pub fn call_alone<S: Surroundings>(
     ensures made { IfOk result (λ r. stmts_in r ≡ (spec.call_statement (exprs.named_of designator.now) (S.around here.now)).node) }
     ensures noted { OnOk result (book.new ≡ book_after book.old (spec.call_statement (exprs.named_of designator.now) (S.around here.now)).notes) }
 {
-    let made = call_statement(alloc, here, book, designator)?;
+    let made = call_statement(alloc, checker, here, book, designator)?;
     alone(alloc, made)
 }
 
 /// An assignment. The rules are those of `assignment`.
-pub fn assignment_alone<S: Surroundings>(
+pub fn assignment_alone<S: Surroundings, C: CheckExpr>(
     alloc: Global,
+    checker: &C,
     here: &S,
     book: &mut Notebook,
     target: &Designator,
@@ -46,7 +49,7 @@ pub fn assignment_alone<S: Surroundings>(
     ensures made { IfOk result (λ r. stmts_in r ≡ (spec.assignment (S.around here.now) (exprs.named_of target.now) at (exprs.phrase_of value.now)).node) }
     ensures noted { OnOk result (book.new ≡ book_after book.old (spec.assignment (S.around here.now) (exprs.named_of target.now) at (exprs.phrase_of value.now)).notes) }
 {
-    let made = assignment(alloc, here, book, target, at, value)?;
+    let made = assignment(alloc, checker, here, book, target, at, value)?;
     alone(alloc, made)
 }
 
@@ -64,8 +67,9 @@ pub fn exit_alone<S: Surroundings>(
 }
 
 /// RETURN. The rules are those of `check_return`.
-pub fn return_alone<S: Surroundings>(
+pub fn return_alone<S: Surroundings, C: CheckExpr>(
     alloc: Global,
+    checker: &C,
     here: &S,
     book: &mut Notebook,
     at: Pos,
@@ -74,7 +78,7 @@ pub fn return_alone<S: Surroundings>(
     ensures made { IfOk result (λ r. stmts_in r ≡ (spec.return (S.around here.now) at (spec.phrase_if value.now)).node) }
     ensures noted { OnOk result (book.new ≡ book_after book.old (spec.return (S.around here.now) at (spec.phrase_if value.now)).notes) }
 {
-    let made = check_return(alloc, here, book, at, value)?;
+    let made = check_return(alloc, checker, here, book, at, value)?;
     alone(alloc, made)
 }
 

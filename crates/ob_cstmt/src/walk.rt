@@ -16,6 +16,7 @@ use crate::single::{
     assignment_alone, call_alone, case_alone, exit_alone, if_alone, return_alone, with_alone,
 };
 use ob_cexpr_name::types;
+use ob_cexpr_trait::CheckExpr;
 use ob_cstmt_parts::{
     alone, for_if, for_variable, loop_made, repeat_made, some_stmts, test_tree, tested_type,
     variable_meant, while_made, with_branch, with_case, with_stmts,
@@ -29,8 +30,9 @@ use std::alloc::{AllocError, Global};
 /// Statements in turn: none where one breaks a rule, or a declaration that it names does. What is
 /// broken, and what they name, is noted in the book. What stands around is in the end as it was.
 #[cycle(walk)]
-pub fn check_stmts<S: Surroundings>(
+pub fn check_stmts<S: Surroundings, C: CheckExpr>(
     alloc: Global,
+    checker: &C,
     here: &mut S,
     book: &mut Notebook,
     stmts: &[Stmt],
@@ -41,15 +43,16 @@ pub fn check_stmts<S: Surroundings>(
 {
     let mut all = Some(StmtTrees::new(alloc));
     'stmts: for stmt in stmts {
-        let made = check_stmt(alloc, here, book, stmt)?;
+        let made = check_stmt(alloc, checker, here, book, stmt)?;
         all = with_stmts(all, made)?;
     }
     Ok(all)
 }
 
 #[cycle(walk)]
-fn check_stmt<S: Surroundings>(
+fn check_stmt<S: Surroundings, C: CheckExpr>(
     alloc: Global,
+    checker: &C,
     here: &mut S,
     book: &mut Notebook,
     stmt: &Stmt,
@@ -60,17 +63,17 @@ fn check_stmt<S: Surroundings>(
 {
     match stmt {
         Stmt::Empty => Ok(Some(StmtTrees::new(alloc))),
-        Stmt::Call(designator) => call_alone(alloc, here, book, designator),
+        Stmt::Call(designator) => call_alone(alloc, checker, here, book, designator),
         Stmt::Assign { target, pos, value } => {
-            assignment_alone(alloc, here, book, target, *pos, value)
+            assignment_alone(alloc, checker, here, book, target, *pos, value)
         }
         Stmt::If {
             branches,
             otherwise,
             ..
         } => {
-            let branches = check_branches(alloc, here, book, branches.as_slice())?;
-            let otherwise = check_otherwise(alloc, here, book, otherwise)?;
+            let branches = check_branches(alloc, checker, here, book, branches.as_slice())?;
+            let otherwise = check_otherwise(alloc, checker, here, book, otherwise)?;
             if_alone(alloc, branches, otherwise)
         }
         Stmt::Case {
@@ -79,17 +82,17 @@ fn check_stmt<S: Surroundings>(
             cases,
             otherwise,
         } => {
-            let value = boxed_case_value(alloc, here, book, value.get())?;
+            let value = boxed_case_value(alloc, checker, here, book, value.get())?;
             let selects = case_selects(types(here), &value);
-            let cases = check_cases(alloc, here, book, cases.as_slice(), selects)?;
-            let otherwise = check_otherwise(alloc, here, book, otherwise)?;
+            let cases = check_cases(alloc, checker, here, book, cases.as_slice(), selects)?;
+            let otherwise = check_otherwise(alloc, checker, here, book, otherwise)?;
             case_alone(alloc, *pos, value, cases, otherwise)
         }
         Stmt::While { pos, test, body } => {
-            check_while(alloc, here, book, body.as_slice(), *pos, test)
+            check_while(alloc, checker, here, book, body.as_slice(), *pos, test)
         }
         Stmt::Repeat { pos, body, test } => {
-            check_repeat(alloc, here, book, body.as_slice(), *pos, test)
+            check_repeat(alloc, checker, here, book, body.as_slice(), *pos, test)
         }
         Stmt::For {
             pos,
@@ -100,6 +103,7 @@ fn check_stmt<S: Surroundings>(
             body,
         } => check_for(
             alloc,
+            checker,
             here,
             book,
             body.as_slice(),
@@ -109,16 +113,16 @@ fn check_stmt<S: Surroundings>(
             end,
             step,
         ),
-        Stmt::Loop { pos, body } => check_loop(alloc, here, book, body.as_slice(), *pos),
+        Stmt::Loop { pos, body } => check_loop(alloc, checker, here, book, body.as_slice(), *pos),
         Stmt::Exit(pos) => exit_alone(alloc, here, book, *pos),
-        Stmt::Return { pos, value } => return_alone(alloc, here, book, *pos, value),
+        Stmt::Return { pos, value } => return_alone(alloc, checker, here, book, *pos, value),
         Stmt::With {
             pos,
             branches,
             otherwise,
         } => {
-            let branches = check_guarded(alloc, here, book, branches.as_slice())?;
-            let otherwise = check_otherwise(alloc, here, book, otherwise)?;
+            let branches = check_guarded(alloc, checker, here, book, branches.as_slice())?;
+            let otherwise = check_otherwise(alloc, checker, here, book, otherwise)?;
             with_alone(alloc, *pos, branches, otherwise)
         }
     }
@@ -126,8 +130,9 @@ fn check_stmt<S: Surroundings>(
 
 // WHILE.
 #[cycle(walk)]
-fn check_while<S: Surroundings>(
+fn check_while<S: Surroundings, C: CheckExpr>(
     alloc: Global,
+    checker: &C,
     here: &mut S,
     book: &mut Notebook,
     body: &[Stmt],
@@ -138,15 +143,16 @@ fn check_while<S: Surroundings>(
     ensures noted { OnOk result (book.new ≡ book_after book.old (spec.while_statement at (exprs.phrase_of test.now) (map spec.judging body.now) (S.around here.old)).notes) }
     ensures around { OnOk result (S.around here.new ≡ S.around here.old) }
 {
-    let tested = condition(alloc, here, book, test)?;
-    let repeated = check_stmts(alloc, here, book, body)?;
+    let tested = condition(alloc, checker, here, book, test)?;
+    let repeated = check_stmts(alloc, checker, here, book, body)?;
     alone(alloc, while_made(at, tested, repeated))
 }
 
 // REPEAT.
 #[cycle(walk)]
-fn check_repeat<S: Surroundings>(
+fn check_repeat<S: Surroundings, C: CheckExpr>(
     alloc: Global,
+    checker: &C,
     here: &mut S,
     book: &mut Notebook,
     body: &[Stmt],
@@ -157,15 +163,16 @@ fn check_repeat<S: Surroundings>(
     ensures noted { OnOk result (book.new ≡ book_after book.old (spec.repeat_statement at (map spec.judging body.now) (exprs.phrase_of test.now) (S.around here.old)).notes) }
     ensures around { OnOk result (S.around here.new ≡ S.around here.old) }
 {
-    let repeated = check_stmts(alloc, here, book, body)?;
-    let tested = condition(alloc, here, book, test)?;
+    let repeated = check_stmts(alloc, checker, here, book, body)?;
+    let tested = condition(alloc, checker, here, book, test)?;
     alone(alloc, repeat_made(at, repeated, tested))
 }
 
 // FOR.
 #[cycle(walk)]
-fn check_for<S: Surroundings>(
+fn check_for<S: Surroundings, C: CheckExpr>(
     alloc: Global,
+    checker: &C,
     here: &mut S,
     book: &mut Notebook,
     body: &[Stmt],
@@ -180,10 +187,10 @@ fn check_for<S: Surroundings>(
     ensures around { OnOk result (S.around here.new ≡ S.around here.old) }
 {
     let place = for_variable(alloc, here, book, at, variable)?;
-    let first = check_bound(alloc, here, book, at, place.as_ref(), start)?;
-    let last = check_bound(alloc, here, book, at, place.as_ref(), end)?;
-    let by = check_step_if(alloc, here, book, at, step)?;
-    let repeated = check_stmts(alloc, here, book, body)?;
+    let first = check_bound(alloc, checker, here, book, at, place.as_ref(), start)?;
+    let last = check_bound(alloc, checker, here, book, at, place.as_ref(), end)?;
+    let by = check_step_if(alloc, checker, here, book, at, step)?;
+    let repeated = check_stmts(alloc, checker, here, book, body)?;
     alone(
         alloc,
         for_if(types(here), at, place, first, last, by, repeated),
@@ -192,8 +199,9 @@ fn check_for<S: Surroundings>(
 
 // The statements behind ELSE, if it is there.
 #[cycle(walk)]
-fn check_otherwise<S: Surroundings>(
+fn check_otherwise<S: Surroundings, C: CheckExpr>(
     alloc: Global,
+    checker: &C,
     here: &mut S,
     book: &mut Notebook,
     otherwise: &Option<List<Stmt>>,
@@ -205,7 +213,7 @@ fn check_otherwise<S: Surroundings>(
     match otherwise {
         None => Ok(Some(None)),
         Some(body) => {
-            let made = check_stmts(alloc, here, book, body.as_slice())?;
+            let made = check_stmts(alloc, checker, here, book, body.as_slice())?;
             Ok(some_stmts(made))
         }
     }
@@ -213,8 +221,9 @@ fn check_otherwise<S: Surroundings>(
 
 // The branches of IF.
 #[cycle(walk)]
-fn check_branches<S: Surroundings>(
+fn check_branches<S: Surroundings, C: CheckExpr>(
     alloc: Global,
+    checker: &C,
     here: &mut S,
     book: &mut Notebook,
     branches: &[Branch],
@@ -225,8 +234,8 @@ fn check_branches<S: Surroundings>(
 {
     let mut all = Some(BranchTrees::new(alloc));
     'branches: for branch in branches {
-        let test = condition(alloc, here, book, &branch.test)?;
-        let body = check_stmts(alloc, here, book, branch.body.as_slice())?;
+        let test = condition(alloc, checker, here, book, &branch.test)?;
+        let body = check_stmts(alloc, checker, here, book, branch.body.as_slice())?;
         all = with_branch(all, test, body)?;
     }
     Ok(all)
@@ -234,8 +243,9 @@ fn check_branches<S: Surroundings>(
 
 // The alternatives of CASE.
 #[cycle(walk)]
-fn check_cases<S: Surroundings>(
+fn check_cases<S: Surroundings, C: CheckExpr>(
     alloc: Global,
+    checker: &C,
     here: &mut S,
     book: &mut Notebook,
     cases: &[Case],
@@ -250,13 +260,14 @@ fn check_cases<S: Surroundings>(
     'cases: for case in cases {
         let labels = check_labels(
             alloc,
+            checker,
             here,
             book,
             selects,
             &mut before,
             case.labels.as_slice(),
         )?;
-        let body = check_stmts(alloc, here, book, case.body.as_slice())?;
+        let body = check_stmts(alloc, checker, here, book, case.body.as_slice())?;
         all = with_case(all, labels, body)?;
     }
     Ok(all)
@@ -264,8 +275,9 @@ fn check_cases<S: Surroundings>(
 
 // The branches of WITH.
 #[cycle(walk)]
-fn check_guarded<S: Surroundings>(
+fn check_guarded<S: Surroundings, C: CheckExpr>(
     alloc: Global,
+    checker: &C,
     here: &mut S,
     book: &mut Notebook,
     branches: &[GuardedBranch],
@@ -276,10 +288,18 @@ fn check_guarded<S: Surroundings>(
 {
     let mut all = Some(BranchTrees::new(alloc));
     'branches: for branch in branches {
-        let test = check_guard(alloc, here, book, &branch.guard)?;
+        let test = check_guard(alloc, checker, here, book, &branch.guard)?;
         let variable = variable_meant(alloc, here, &branch.guard.variable)?;
         let of = tested_type(test.as_ref())?;
-        let body = check_guarded_body(alloc, here, book, branch.body.as_slice(), variable, of)?;
+        let body = check_guarded_body(
+            alloc,
+            checker,
+            here,
+            book,
+            branch.body.as_slice(),
+            variable,
+            of,
+        )?;
         all = with_branch(all, test_tree(test), body)?;
     }
     Ok(all)
@@ -287,8 +307,9 @@ fn check_guarded<S: Surroundings>(
 
 // Statements in which the variable has one more guard.
 #[cycle(walk)]
-fn check_guarded_body<S: Surroundings>(
+fn check_guarded_body<S: Surroundings, C: CheckExpr>(
     alloc: Global,
+    checker: &C,
     here: &mut S,
     book: &mut Notebook,
     body: &[Stmt],
@@ -300,10 +321,10 @@ fn check_guarded_body<S: Surroundings>(
     ensures around { OnOk result (S.around here.new ≡ S.around here.old) }
 {
     match variable {
-        None => check_stmts(alloc, here, book, body),
+        None => check_stmts(alloc, checker, here, book, body),
         Some(variable) => {
             here.guard(variable, of)?;
-            let made = check_stmts(alloc, here, book, body)?;
+            let made = check_stmts(alloc, checker, here, book, body)?;
             here.unguard();
             Ok(made)
         }
@@ -312,8 +333,9 @@ fn check_guarded_body<S: Surroundings>(
 
 // LOOP.
 #[cycle(walk)]
-fn check_loop<S: Surroundings>(
+fn check_loop<S: Surroundings, C: CheckExpr>(
     alloc: Global,
+    checker: &C,
     here: &mut S,
     book: &mut Notebook,
     body: &[Stmt],
@@ -325,7 +347,7 @@ fn check_loop<S: Surroundings>(
 {
     let outer = here.in_loop();
     here.set_in_loop(true);
-    let repeated = check_stmts(alloc, here, book, body)?;
+    let repeated = check_stmts(alloc, checker, here, book, body)?;
     here.set_in_loop(outer);
     alone(alloc, loop_made(at, repeated))
 }

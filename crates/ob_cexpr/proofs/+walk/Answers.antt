@@ -18,14 +18,15 @@ use Rattle.ob_rules.proofs.BookLaws.{after_none}
 use Rattle.ob_cexpr_operand.specs.Plain.{plain}
 use Rattle.ob_cexpr_arguments.specs.declared.opening.Opened.TheVariants as opens
 use Rattle.ob_cexpr.specs.Plain.{set_judged, goes_on, visited_one}
-use Rattle.ob_cexpr.proofs.Alone.{alone_made, alone_said}
+use Rattle.ob_cexpr_trait.proofs.Alone.{alone_made, alone_said}
 use Rattle.ob_cexpr.proofs.Further.{further_node, further_noted, too_many_node, too_many_noted, no_parameter_node, no_parameter_noted, most_rest}
 use Rattle.ob_cexpr.proofs.Rounds.{actuals_step, actuals_end_noted, parameters_step, parameters_end_noted, extreme_node, extreme_noted, call_noted, left_noted}
 use Rattle.ob_cexpr.proofs.Rows.{on_ok_from}
 use Rattle.ob_cexpr.proofs.Sets.{set_node, set_noted, elements_step, elements_end, elements_end_noted, element_noted, as_set_node, as_set_noted}
 use Rattle.ob_cexpr.proofs.Selectors.{selectors_end, selectors_end_noted, meant_node, meant_noted, index_step_node, index_step_noted, index_made, index_said, visit_step, argument_step, selector_step, not_taken, last_by}
 use Rattle.ob_cexpr.proofs.Chains.{map_from, map_over, made_as, noted_as, then_made, then_noted, then_chain, then_chain_noted, relation_noted, chain_step, tails_from, tailed_as, tails_over}
-use Rattle.ob_cexpr.proofs.ExprViews.{named_is, behind_field, behind_index, behind_up, value_str, value_designator, value_nil, value_paren, value_not, value_signed, value_chain, value_relate}
+use Rattle.ob_cexpr_trait.proofs.NamedViews.{named_is}
+use Rattle.ob_cexpr.proofs.ExprViews.{behind_field, behind_index, behind_up, value_str, value_designator, value_nil, value_paren, value_not, value_signed, value_chain, value_relate}
 use Rattle.ob_cexpr.proofs.+walk.Goals as goal
 
 pub walk::check_expr-returns-in-Nil-clause-noted : goal.walk::check_expr-returns-in-Nil-clause-noted

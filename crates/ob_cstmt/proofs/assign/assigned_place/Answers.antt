@@ -1,7 +1,7 @@
 use Rattle.std.proofs.Common.{sym, ◌∙◌}
 use Rattle.ob_rules.specs.declared.meant.Where.TheVariants.{Elsewhere}
 use Rattle.ob_rules.specs.Statements as spec
-use Rattle.ob_cexpr.proofs.Alone.{alone_made, alone_said}
+use Rattle.ob_cexpr_trait.proofs.Alone.{alone_made, alone_said}
 use Rattle.ob_cstmt.proofs.assign.assigned_place.Goals as goal
 
 pub returns-then-is_empty-clause-made : goal.returns-then-is_empty-clause-made

@@ -17,7 +17,7 @@ use Rattle.ob_rules.specs.Phrases.{Behind}
 use Rattle.ob_rules.specs.Designators.{behind, designates, front, front_of, from_front, is_module}
 use Rattle.ob_rules.specs.Expressions.{behind_of, meant_by, named_of}
 use Rattle.ob_rules.proofs.BookLaws.{after_none, after_joined}
-use Rattle.ob_cexpr.proofs.ExprViews.{named_is}
+use Rattle.ob_cexpr_trait.proofs.NamedViews.{named_is}
 
 -- notes, and then nothing
 then_none : (b : Notebook) (n : Notes) → book_after b (joined n no_notes) ≡ book_after b n
