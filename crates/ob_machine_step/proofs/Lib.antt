@@ -3,3 +3,4 @@ pub mod Bases
 pub mod Puts
 pub mod Made
 pub mod Powers
+pub mod TrapRows
