@@ -25,6 +25,7 @@ pub fn placed<'a>(faces: &'a [SymbolFile], at: usize, name: &ObjName) -> Option<
 }
 
 /// The objects of the interface at a position, under their names.
+#[tactic(auto, using(crate::proofs::Places::indexed_none, crate::proofs::Places::indexed_some))]
 pub fn index_placed(faces: &[SymbolFile], at: usize) -> Option<&IndexMap<ObjName, Object>>
     ensures { option_map (λ m. m.entries) (option_copied result) ≡ option_map (λ i. under_names i.objects) (slice_get faces.now at) }
 {

@@ -3,6 +3,7 @@
 ghost use Rattle.std.specs.Prelude.{◌≡◌, IfOk, slice_get};
 ghost use Rattle.std.specs.Option.{option_copied, option_map};
 ghost use Rattle.std.specs.List.Sorted.{IsStrictlySortedBy};
+ghost use Rattle.ob_format.specs.Format.{◌>>=◌};
 ghost use Rattle.ob_env.specs.Faces.{faces_of};
 ghost use Rattle.ob_env.specs.Shown.{blank, shown};
 ghost use Rattle.ob_types.specs.Relations.{is_record};
@@ -116,12 +117,14 @@ impl Types for Shown<'_> {
 
     ghost finite = { λ s. shown_finite (faces_of s) };
 
+    #[tactic(auto, using(crate::proofs::Blanks::shown_at))]
     fn desc_of(&self, name: &QName) -> Option<&Desc> {
         self.at(self.env.place(name))
     }
 }
 
 impl Imports for Shown<'_> {
+    #[tactic(auto, using(crate::proofs::Blanks::shown_at))]
     fn shown(&self, unit: &Name, name: &Name) -> Option<&Desc> {
         self.at(self.env.position(unit.as_bytes(), name.as_bytes()))
     }
