@@ -9,6 +9,7 @@ ghost use Rattle.ob_cmp.specs.Rising.{AreObjects, IsSpelledIn, shown};
 
 use crate::verdict::{Kind, Verdict};
 use ob_desc::write_desc;
+use ob_env_files::SymbolFile;
 use ob_tree::{List, Name, ObjName, Text};
 use ob_types::{Aspect, Desc, Interface, Object};
 use std::alloc::{AllocError, Global};
@@ -150,20 +151,63 @@ fn step<'a>(
     }
 }
 
+// The differences of the objects of two modules, by name and kind.
+fn compare_objects(
+    alloc: Global,
+    old_module: &Name,
+    old: &[Object],
+    new_module: &Name,
+    new: &[Object],
+) -> Result<List<Verdict>, AllocError>
+    requires old { AreObjects old_module.now old.now }
+    requires new { AreObjects new_module.now new.now }
+    ensures { IfOk result (λ l. l ≡ verdicts_in old_module.now (shown old.now) new_module.now (shown new.now)) }
+{
+    let mut all = List::new(alloc);
+    let mut older = old;
+    let mut newer = new;
+    'merge: while !older.is_empty() || !newer.is_empty() {
+        let (behind, after) = step(alloc, &mut all, old_module, older, new_module, newer)?;
+        older = behind;
+        newer = after;
+    }
+    Ok(all)
+}
+
 /// The differences of two interfaces, by name and kind. An error is want of memory alone.
+#[tactic(auto, using(crate::proofs::Filed::are_objects))]
 pub fn compare(alloc: Global, old: &Interface, new: &Interface) -> Result<List<Verdict>, AllocError>
     // Both have a symbol file.
     requires old { face_form.fits old.now }
     requires new { face_form.fits new.now }
     ensures { IfOk result (λ l. l ≡ verdicts (face_of old.now) (face_of new.now)) }
 {
-    let mut all = List::new(alloc);
-    let mut older = old.objects.as_slice();
-    let mut newer = new.objects.as_slice();
-    'merge: while !older.is_empty() || !newer.is_empty() {
-        let (behind, after) = step(alloc, &mut all, &old.module, older, &new.module, newer)?;
-        older = behind;
-        newer = after;
-    }
-    Ok(all)
+    compare_objects(
+        alloc,
+        &old.module,
+        old.objects.as_slice(),
+        &new.module,
+        new.objects.as_slice(),
+    )
+}
+
+/// The differences of an interface and that of a symbol file, as `compare` tells them.
+#[tactic(auto, using(crate::proofs::Filed::are_objects))]
+pub fn compare_file(
+    alloc: Global,
+    old: &Interface,
+    new: &SymbolFile,
+) -> Result<List<Verdict>, AllocError>
+    // The interface has a symbol file, and so has what the file spells.
+    requires old { face_form.fits old.now }
+    requires new { face_form.fits new.now }
+    ensures { IfOk result (λ l. l ≡ verdicts (face_of old.now) (face_of new.now)) }
+{
+    compare_objects(
+        alloc,
+        &old.module,
+        old.objects.as_slice(),
+        new.module(),
+        new.objects(),
+    )
 }

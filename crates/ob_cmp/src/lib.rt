@@ -9,7 +9,7 @@ mod showing;
 mod verdict;
 
 pub use check::{CheckFault, check_client};
-pub use comparing::compare;
+pub use comparing::{compare, compare_file};
 pub use lookup::find_object;
 pub use showing::show;
 pub use verdict::{Kind, Stale, Verdict};

@@ -32,7 +32,7 @@ impl Compiler {
     /// memory is wanting it is not kept.
     pub(crate) fn keep(&mut self, alloc: Global, file: &SymbolFile) {
         if let Ok(again) = file.clone() {
-            let _ = self.symbols.keep(alloc, &file.face().module, again);
+            let _ = self.symbols.keep(alloc, file.module(), again);
         }
     }
 }

@@ -1,16 +1,18 @@
 //! The interfaces around a module, in which modules and objects are found by name.
 
 ghost use Rattle.std.specs.Prelude.{◌≡◌, IfOk};
-ghost use Rattle.std.specs.Option.{option_copied};
+ghost use Rattle.std.specs.Option.{option_copied, option_map};
+ghost use Rattle.ob_env_files.specs.Names.{under_names};
 ghost use Rattle.ob_env.specs.Faces.{print_in, faces_of};
-ghost use Rattle.ob_env.specs.Found.{object_found, module_names, carried_print, CarryPrints};
+ghost use Rattle.ob_env.specs.Found.{object_found, interface_by_name, module_names, carried_print, CarryPrints};
 ghost use Rattle.ob_env.specs.Found.{place_of};
 ghost use Rattle.ob_layout.specs.Index.{IsIndexOf};
 
-use crate::found::{modules_of, placed, position_placed};
+use crate::found::{index_placed, modules_of, placed, position_of_placed, position_placed};
+use indexmap::IndexMap;
 use ob_env_files::SymbolFile;
 use ob_layout::NameIndex;
-use ob_tree::{List, Print, QName};
+use ob_tree::{List, Name, ObjName, Print, QName};
 use ob_types::{Aspect, Object};
 use std::alloc::{AllocError, Global};
 use std::marker::Model;
@@ -74,6 +76,17 @@ impl Env {
         self.faces.as_slice()
     }
 
+    /// The objects of a module's interface under their names, in the interface's order; none exactly
+    /// where there is no interface of that module. Takes no memory.
+    pub fn index(&self, module: &Name) -> Option<&IndexMap<ObjName, Object>>
+        ensures { option_map (λ m. m.entries) (option_copied result) ≡ option_map (λ i. under_names i.objects) (interface_by_name self.now «module».now) }
+    {
+        match self.modules.get(module.as_bytes()) {
+            None => None,
+            Some(at) => index_placed(self.faces.as_slice(), at),
+        }
+    }
+
     /// The object of that name, with its description and prints; none exactly where no module has
     /// it. Takes no memory.
     pub fn lookup(&self, name: &QName) -> Option<&Object>
@@ -81,18 +94,18 @@ impl Env {
     {
         match self.modules.get(name.module.as_bytes()) {
             None => None,
-            Some(at) => placed(self.faces.as_slice(), at, name.object.as_bytes()),
+            Some(at) => placed(self.faces.as_slice(), at, &name.object),
         }
     }
 
-    /// The position of a module among the interfaces, and that of an object of it there; none
-    /// exactly where no module has it. Takes no memory.
+    /// The position of a module among the interfaces, and that of an object of it there, by the
+    /// bytes of their names; none exactly where no module has it. Takes no memory.
     pub fn position(&self, module: &[u8], object: &[u8]) -> Option<(usize, usize)>
         ensures { result ≡ place_of self.now (record { «module» = «module».now; object = object.now }) }
     {
         match self.modules.get(module) {
             None => None,
-            Some(at) => match position_placed(self.faces.as_slice(), at, object) {
+            Some(at) => match position_of_placed(self.faces.as_slice(), at, object) {
                 None => None,
                 Some(position) => Some((at, position)),
             },
@@ -104,7 +117,13 @@ impl Env {
     pub fn place(&self, name: &QName) -> Option<(usize, usize)>
         ensures { result ≡ place_of self.now name.now }
     {
-        self.position(name.module.as_bytes(), name.object.as_bytes())
+        match self.modules.get(name.module.as_bytes()) {
+            None => None,
+            Some(at) => match position_placed(self.faces.as_slice(), at, &name.object) {
+                None => None,
+                Some(position) => Some((at, position)),
+            },
+        }
     }
 
     /// The print of an object's aspect; none exactly where no module has the object with that

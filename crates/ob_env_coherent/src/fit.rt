@@ -26,7 +26,7 @@ fn steps_for(faces: &[SymbolFile]) -> Option<usize>
     let mut total: usize = 201;
     let mut rest = faces;
     while let [first, more @ ..] = rest {
-        total = total.checked_add(first.face().objects.len())?;
+        total = total.checked_add(first.objects().len())?;
         rest = more;
     }
     Some(total)
@@ -142,14 +142,7 @@ fn check_faces(
 {
     let mut rest = faces;
     while let [first, more @ ..] = rest {
-        check_objects(
-            alloc,
-            env,
-            steps,
-            marks,
-            &first.face().module,
-            first.face().objects.as_slice(),
-        )?;
+        check_objects(alloc, env, steps, marks, first.module(), first.objects())?;
         rest = more;
     }
     Ok(())

@@ -71,8 +71,7 @@ pub fn check_uses(env: &Env, faces: &[SymbolFile]) -> Result<(), EnvFault>
 {
     let mut rest = faces;
     while let [first, more @ ..] = rest {
-        let face = first.face();
-        check_client(env, &face.module, face.uses.as_slice())?;
+        check_client(env, first.module(), first.uses())?;
         rest = more;
     }
     Ok(())

@@ -1,34 +1,50 @@
-//! A symbol file that was read: its bytes, its interface, and where each object stands.
+//! A symbol file that was read: its bytes, and the interface that they spell, whose objects are found by their names.
 
 ghost use Rattle.std.specs.Prelude.{◌≡◌, true, Some, IfOk, MatchResult};
 ghost use Rattle.std.specs.Option.{option_copied};
-ghost use Rattle.std.specs.Coded.{Coded-set, coded_option};
+ghost use Rattle.std.specs.List.Sorted.{IsStrictlySortedBy};
 ghost use Rattle.ob_format.specs.Format.{whole};
-ghost use Rattle.ob_sym.specs.Grammar.{face as face_form};
+ghost use Rattle.ob_sym.specs.Grammar.{face as face_form, by_name};
 ghost use Rattle.ob_types.specs.declared.face.Interface.{Interface as Face};
-ghost use Rattle.ob_layout.specs.Index.{IsIndexOf, position_from, first_by};
-ghost use Rattle.ob_env_files.specs.Names.{names_of};
+ghost use Rattle.ob_layout.specs.Index.{position_from, first_by};
+ghost use Rattle.ob_env_files.specs.Names.{names_of, under_names};
 
-use ob_layout::{NameIndex, item_at};
+use indexmap::IndexMap;
 use ob_sym::{SymFault, read_sym};
-use ob_tree::Text;
-use ob_types::{Interface, Object};
+use ob_tree::{List, Name, ObjName, Text};
+use ob_types::{Interface, Object, Use};
 use std::alloc::{AllocError, Global};
 use std::marker::Model;
 use std::rc::Rc;
 
-// The bytes of a symbol file, the interface that they spell, and where each of its objects stands.
+// The bytes of a symbol file, and the interface that they spell, with its objects under their names. Contracts see it
+// as the interface.
 #[derive(Drop)]
 struct Spelled {
     bytes: Text,
-    face: Interface,
-    objects: NameIndex,
-    ghost spelled: { whole face_form bytes ≡ Some face } by { Coded-set (coded_option face-code) (whole face_form bytes) (Some face) },
-    ghost indexed: { IsIndexOf objects.positions (names_of face.objects) },
+    module: Name,
+    imports: List<Name>,
+    objects: IndexMap<ObjName, Object>,
+    uses: List<Use>,
 }
 
-/// A symbol file that was read: its bytes, the interface that they spell, and an index of its
-/// objects. Clones share one place in memory. Contracts see it as the interface.
+impl Model for Spelled {
+    ghost use Rattle.std.specs.Prelude.{◌≡◌, Some};
+    ghost use Rattle.indexmap.specs.IndexMap.{values};
+    ghost use Rattle.ob_format.specs.Format.{whole};
+    ghost use Rattle.ob_sym.specs.Grammar.{face as face_form};
+    ghost use Rattle.ob_types.specs.declared.face.Interface.{Interface as Face};
+    ghost use Rattle.ob_env_files.specs.Names.{under_names, spelled_face};
+
+    ghost Value = { Face };
+
+    ghost view = { λ s. spelled_face s.«module» s.imports s.objects s.uses };
+
+    ghost invariant = { λ s. (whole face_form s.bytes ≡ Some (spelled_face s.«module» s.imports s.objects s.uses)) × (s.objects.entries ≡ under_names (values s.objects)) };
+}
+
+/// A symbol file that was read: its bytes, and the interface that they spell, whose objects are
+/// found by their names. Clones share one place in memory. Contracts see it as the interface.
 #[derive(Drop)]
 pub struct SymbolFile {
     shared: Rc<Spelled>,
@@ -39,32 +55,31 @@ impl Model for SymbolFile {
 
     ghost Value = { Face };
 
-    ghost view = { λ f. f.shared.value.face };
+    ghost view = { λ f. f.shared.value };
 }
 
-// The positions of objects by their names.
-fn index_of(alloc: Global, objects: &[Object]) -> Result<NameIndex, AllocError>
-    ensures { IfOk result (λ index. IsIndexOf index.positions (names_of objects.now)) }
+// Objects that ascend by name, under their names.
+#[tactic(auto, using(crate::proofs::Objects::entered))]
+fn indexed(alloc: Global, objects: List<Object>) -> Result<IndexMap<ObjName, Object>, AllocError>
+    requires { IsStrictlySortedBy by_name objects }
+    ensures { IfOk result (λ index. index.entries ≡ under_names objects) }
 {
-    let mut index = NameIndex::new(alloc);
-    let mut at = 0;
-    let mut rest = objects;
-    while let [first, more @ ..] = rest {
-        index.note(alloc, first.name.as_bytes(), at)?;
-        at += 1;
-        rest = more;
+    let mut index = IndexMap::with_capacity(alloc, objects.len())?;
+    'objects: for object in objects.into_items() {
+        let name = object.name.clone()?;
+        index.insert(name, object)?;
     }
     Ok(index)
 }
 
-// The object of a name.
-fn object_at<'a>(objects: &'a [Object], names: &NameIndex, name: &[u8]) -> Option<&'a Object>
-    requires { IsIndexOf names.now.positions (names_of objects.now) }
-    ensures { option_copied result ≡ first_by (λ o. o.name) objects.now name.now }
+// The position of a name among objects that ascend by name, found by halving.
+fn halved(objects: &[Object], name: &[u8]) -> Option<usize>
+    requires { IsStrictlySortedBy by_name objects.now }
+    ensures { result ≡ position_from 0 name.now (names_of objects.now) }
 {
-    match names.get(name) {
-        None => None,
-        Some(position) => item_at(objects, position),
+    match objects.binary_search_by(|object| object.name.as_bytes().cmp(name)) {
+        Ok(position) => Some(position),
+        Err(_) => None,
     }
 }
 
@@ -74,19 +89,104 @@ fn are_same(a: &[u8], b: &[u8]) -> bool
     a == b
 }
 
+impl Spelled {
+    // The bytes, and the interface that they spell.
+    #[tactic(auto, using(crate::proofs::Objects::rising, crate::proofs::Objects::named_again, crate::proofs::Objects::parts_are))]
+    fn of(alloc: Global, bytes: &[u8], face: Interface) -> Result<Spelled, AllocError>
+        requires { whole face_form bytes.now ≡ Some face }
+        ensures { IfOk result (λ s. s ≡ face) }
+    {
+        let Interface {
+            module,
+            imports,
+            objects,
+            uses,
+        } = face;
+        let objects = indexed(alloc, objects)?;
+        let bytes = Text::from_slice(alloc, bytes)?;
+        Ok(Spelled {
+            bytes,
+            module,
+            imports,
+            objects,
+            uses,
+        })
+    }
+
+    fn module(&self) -> &Name
+        ensures { result.now ≡ self.now.«module» }
+    {
+        &self.module
+    }
+
+    fn imports(&self) -> &[Name]
+        ensures { result.now ≡ self.now.imports }
+    {
+        self.imports.as_slice()
+    }
+
+    fn objects(&self) -> &[Object]
+        ensures { result.now ≡ self.now.objects }
+    {
+        self.objects.values().as_slice()
+    }
+
+    fn uses(&self) -> &[Use]
+        ensures { result.now ≡ self.now.uses }
+    {
+        self.uses.as_slice()
+    }
+
+    fn index(&self) -> &IndexMap<ObjName, Object>
+        ensures { result.now.entries ≡ under_names self.now.objects }
+    {
+        &self.objects
+    }
+
+    // Whether these are the bytes.
+    fn has_bytes(&self, bytes: &[u8]) -> bool
+        ensures { result ≡ true → whole face_form bytes.now ≡ Some self.now }
+    {
+        are_same(self.bytes.as_slice(), bytes)
+    }
+
+    // The position of a name, found by halving.
+    fn position_by_halves(&self, name: &[u8]) -> Option<usize>
+        ensures { result ≡ position_from 0 name.now (names_of self.now.objects) }
+    {
+        halved(self.objects.values().as_slice(), name)
+    }
+
+    fn bytes(&self) -> &[u8]
+        ensures { whole face_form result.now ≡ Some self.now }
+    {
+        self.bytes.as_slice()
+    }
+}
+
+// The object of a name.
+#[tactic(auto, using(crate::proofs::Objects::object_is))]
+fn object_in<'a>(index: &'a IndexMap<ObjName, Object>, name: &ObjName) -> Option<&'a Object>
+    ensures { (os : _) → index.now.entries ≡ under_names os → option_copied result ≡ first_by (λ o. o.name) os name.now }
+{
+    index.get(name)
+}
+
+// The position of a name.
+#[tactic(auto, using(crate::proofs::Objects::position_is))]
+fn position_in(index: &IndexMap<ObjName, Object>, name: &ObjName) -> Option<usize>
+    ensures { (os : _) → index.now.entries ≡ under_names os → result ≡ position_from 0 name.now (names_of os) }
+{
+    index.get_index_of(name)
+}
+
 impl SymbolFile {
     /// The symbol file of these bytes, which spell that interface.
     pub fn of(alloc: Global, bytes: &[u8], face: Interface) -> Result<SymbolFile, AllocError>
         requires { whole face_form bytes.now ≡ Some face }
         ensures { IfOk result (λ f. f ≡ face) }
     {
-        let objects = index_of(alloc, face.objects.as_slice())?;
-        let bytes = Text::from_slice(alloc, bytes)?;
-        let spelled = Spelled {
-            bytes,
-            face,
-            objects,
-        };
+        let spelled = Spelled::of(alloc, bytes, face)?;
         let shared = Rc::new(alloc, spelled)?;
         Ok(SymbolFile { shared })
     }
@@ -104,43 +204,78 @@ impl SymbolFile {
         }
     }
 
-    /// The interface that its bytes spell.
-    pub fn face(&self) -> &Interface
-        ensures { result.now ≡ self.now }
+    /// The name of its module.
+    pub fn module(&self) -> &Name
+        ensures { result.now ≡ self.now.«module» }
     {
-        &self.shared.face
+        self.shared.module()
     }
 
-    /// The first object of that name; none exactly where the interface has none. Takes no memory.
-    pub fn object(&self, name: &[u8]) -> Option<&Object>
+    /// The imports, in the order of the source.
+    pub fn imports(&self) -> &[Name]
+        ensures { result.now ≡ self.now.imports }
+    {
+        self.shared.imports()
+    }
+
+    /// The objects, ascending by name.
+    pub fn objects(&self) -> &[Object]
+        ensures { result.now ≡ self.now.objects }
+    {
+        self.shared.objects()
+    }
+
+    /// The uses, ascending by module, object and aspect.
+    pub fn uses(&self) -> &[Use]
+        ensures { result.now ≡ self.now.uses }
+    {
+        self.shared.uses()
+    }
+
+    /// The objects under their names, in the same order.
+    pub fn index(&self) -> &IndexMap<ObjName, Object>
+        ensures { result.now.entries ≡ under_names self.now.objects }
+    {
+        self.shared.index()
+    }
+
+    /// The object of that name; none exactly where the interface has none. Takes no memory.
+    pub fn object(&self, name: &ObjName) -> Option<&Object>
         ensures { option_copied result ≡ first_by (λ o. o.name) self.now.objects name.now }
     {
-        object_at(
-            self.shared.face.objects.as_slice(),
-            &self.shared.objects,
-            name,
-        )
+        object_in(self.index(), name)
     }
 
-    /// The position of the first object of that name. Takes no memory.
-    pub fn position(&self, name: &[u8]) -> Option<usize>
+    /// The position of the object of that name. Takes no memory.
+    pub fn position(&self, name: &ObjName) -> Option<usize>
         ensures { result ≡ position_from 0 name.now (names_of self.now.objects) }
     {
-        self.shared.objects.get(name)
+        position_in(self.index(), name)
+    }
+
+    /// The position of the object whose name has these bytes. More than 14 of them are searched
+    /// for by halves. Takes no memory.
+    pub fn position_of(&self, name: &[u8]) -> Option<usize>
+        ensures { result ≡ position_from 0 name.now (names_of self.now.objects) }
+    {
+        match ObjName::short(name) {
+            Some(name) => self.position(&name),
+            None => self.shared.position_by_halves(name),
+        }
     }
 
     /// Whether these are its bytes, which then spell its interface.
     pub fn has_bytes(&self, bytes: &[u8]) -> bool
         ensures { result ≡ true → whole face_form bytes.now ≡ Some self.now }
     {
-        are_same(self.shared.bytes.as_slice(), bytes)
+        self.shared.has_bytes(bytes)
     }
 
     /// Whether both have the same bytes, and so the same interface.
     pub fn is_same(&self, other: &SymbolFile) -> bool
         ensures { result ≡ true → self.now ≡ other.now }
     {
-        self.has_bytes(other.shared.bytes.as_slice())
+        self.has_bytes(other.shared.bytes())
     }
 }
 

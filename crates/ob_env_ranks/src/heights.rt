@@ -192,7 +192,7 @@ pub fn heights_behind(
 ) -> Result<List<List<u32>>, AllocError> {
     let mut rows = List::new(alloc);
     for face in faces {
-        let row = next_heights(alloc, env, first, &rows, face.face().objects.as_slice())?;
+        let row = next_heights(alloc, env, first, &rows, face.objects())?;
         rows.push(row)?;
     }
     Ok(rows)

@@ -113,12 +113,7 @@ pub fn faces_keep(
         let [row, others @ ..] = left else {
             return false;
         };
-        if !objects_keep(
-            env,
-            heights,
-            first.face().objects.as_slice(),
-            row.as_slice(),
-        ) {
+        if !objects_keep(env, heights, first.objects(), row.as_slice()) {
             return false;
         }
         rest = more;

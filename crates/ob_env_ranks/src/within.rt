@@ -95,7 +95,7 @@ fn marks_of<P: Test>(alloc: Global, p: &P, objects: &[Object]) -> Result<List<bo
 fn face_marks<P: Test>(alloc: Global, p: &P, face: &SymbolFile) -> Result<List<bool>, AllocError>
     ensures { IfOk result (λ row. row ≡ row_by (P.passes p.now) face.now) }
 {
-    marks_of(alloc, p, face.face().objects.as_slice())
+    marks_of(alloc, p, face.objects())
 }
 
 fn rows_by<P: Test>(

@@ -49,9 +49,6 @@ pub is_shown : (is : List Interface) (q : QName) → place_of is q >>= seen_at i
 unfolding described_in
 is_shown is q = sym (ap (option_map blank) (described_found is q) ∙ at_module is q (position_from 0 q.«module» (module_names is)) refl)
 
--- what was found by the bytes of a name
-pub shown_of : (is : List Interface) (m x : List ℕ) (q : QName) (o : Option Desc) → m ≡ q.«module» → x ≡ q.object → o ≡ shown (each face_of is) (record { «module» = m; object = x }) → o ≡ shown (each face_of is) q
-shown_of is m x q o e f h =
-    h
-    ∙ ap (λ (l : List ℕ). let r : QName = record { «module» = l; object = x } in shown (each face_of is) r) e
-    ∙ ap (λ (l : List ℕ). let r : QName = record { «module» = q.«module»; object = l } in shown (each face_of is) r) f
+-- what was found at the place of a name
+pub shown_at : (is : List Interface) (q : QName) (place : Option (ℕ × ℕ)) (o : Option Desc) → place ≡ place_of is q → o ≡ place >>= seen_at is → o ≡ shown (each face_of is) q
+shown_at is q place o e h = h ∙ ap (λ (p : Option (ℕ × ℕ)). p >>= seen_at is) e ∙ is_shown is q

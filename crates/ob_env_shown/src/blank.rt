@@ -136,7 +136,7 @@ fn blank_rows(alloc: Global, faces: &[SymbolFile]) -> Result<List<List<BlankReco
 {
     let mut all = List::new(alloc);
     'faces: for face in faces {
-        let one = blank_row(alloc, face.face().objects.as_slice())?;
+        let one = blank_row(alloc, face.objects())?;
         all.push(one)?;
     }
     Ok(all)

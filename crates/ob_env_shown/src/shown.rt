@@ -3,6 +3,7 @@
 ghost use Rattle.std.specs.Prelude.{◌≡◌, IfOk, slice_get};
 ghost use Rattle.std.specs.Option.{option_copied, option_map};
 ghost use Rattle.std.specs.List.Sorted.{IsStrictlySortedBy};
+ghost use Rattle.ob_format.specs.Format.{◌>>=◌};
 ghost use Rattle.ob_env.specs.Faces.{faces_of};
 ghost use Rattle.ob_env.specs.Shown.{blank, shown};
 ghost use Rattle.ob_types.specs.Relations.{is_record};
@@ -88,7 +89,7 @@ fn seen_in<'a>(
         None => None,
         Some(found) => match item_at(rows, face) {
             None => None,
-            Some(row) => seen_among(found.face().objects.as_slice(), row.as_slice(), object),
+            Some(row) => seen_among(found.objects(), row.as_slice(), object),
         },
     }
 }
@@ -102,16 +103,12 @@ impl<'a> Shown<'a> {
         Shown { env, records }
     }
 
-    // The object of that name, without places, numbers and words.
-    fn find(&self, module: &[u8], object: &[u8]) -> Option<&Desc>
-        ensures { option_copied result ≡ shown (faces_of self.now) (record { «module» = «module».now; object = object.now }) }
+    // The object at a place, without places, numbers and words.
+    fn at(&self, place: Option<(usize, usize)>) -> Option<&Desc>
+        ensures { option_copied result ≡ (place >>= seen_at self.now) }
     {
-        match self.env.position(module, object) {
-            None => None,
-            Some((face, position)) => {
-                seen_in(self.env.faces(), self.records.rows(), face, position)
-            }
-        }
+        let (face, position) = place?;
+        seen_in(self.env.faces(), self.records.rows(), face, position)
     }
 }
 
@@ -120,13 +117,15 @@ impl Types for Shown<'_> {
 
     ghost finite = { λ s. shown_finite (faces_of s) };
 
+    #[tactic(auto, using(crate::proofs::Blanks::shown_at))]
     fn desc_of(&self, name: &QName) -> Option<&Desc> {
-        self.find(name.module.as_bytes(), name.object.as_bytes())
+        self.at(self.env.place(name))
     }
 }
 
 impl Imports for Shown<'_> {
+    #[tactic(auto, using(crate::proofs::Blanks::shown_at))]
     fn shown(&self, unit: &Name, name: &Name) -> Option<&Desc> {
-        self.find(unit.as_bytes(), name.as_bytes())
+        self.at(self.env.position(unit.as_bytes(), name.as_bytes()))
     }
 }

@@ -59,7 +59,7 @@ fn is_left(left: &[SymbolFile], m: &Name) -> bool
 {
     let mut rest = left;
     while let [first, more @ ..] = rest {
-        if m.as_bytes() == first.face().module.as_bytes() {
+        if m.as_bytes() == first.module().as_bytes() {
             return true;
         }
         rest = more;
@@ -85,7 +85,7 @@ fn held(face: SymbolFile, m: &Name) -> Looked
     ensures entry { entry_of result ≡ named_face m.now (Some face) }
     ensures carried { CarriesAll face → Carries result }
 {
-    if m.as_bytes() == face.face().module.as_bytes() {
+    if m.as_bytes() == face.module().as_bytes() {
         Looked::Holds(face)
     } else {
         Looked::Junk
@@ -207,16 +207,7 @@ fn enter<F: Shelf, R: SymbolReader>(
             if left.len() > 255 || left.len() + path.len() > 255 {
                 return Err(WalkStop::TooMany);
             }
-            below(
-                alloc,
-                folder,
-                reader,
-                steps,
-                path,
-                m,
-                face.face().imports.as_slice(),
-                left,
-            )?;
+            below(alloc, folder, reader, steps, path, m, face.imports(), left)?;
             if left.push(face).is_err() {
                 return Err(WalkStop::Memory);
             }

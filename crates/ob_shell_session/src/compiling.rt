@@ -57,7 +57,7 @@ fn put_files<F: Folder, O: Sink>(
         symbol,
         built.sym.as_slice(),
     ) {
-        Ok(()) => put_compiled(&built.face.face().module, counts, out),
+        Ok(()) => put_compiled(built.face.module(), counts, out),
         Err(_) => Err(Stop::Folder),
     }
 }
@@ -79,7 +79,7 @@ fn put_counted<F: Folder, O: Sink>(
     ensures cause { Cause (O.faults out.old) (O.faults out.new) (F.faults folder.old) (F.faults folder.new) result }
 {
     match read_symbols(alloc, folder, symbol) {
-        Ok(symbols) => match count_objects(alloc, &symbols, built.face.face()) {
+        Ok(symbols) => match count_objects(alloc, &symbols, &built.face) {
             Ok(counts) => put_files(folder, object, symbol, built, counts, out),
             Err(_) => Err(Stop::Memory),
         },
@@ -100,10 +100,10 @@ fn put_built<F: Folder, O: Sink>(
     ensures told_sink { O.tells out.new ≡ O.tells out.old }
     ensures cause { Cause (O.faults out.old) (O.faults out.new) (F.faults folder.old) (F.faults folder.new) result }
 {
-    let Ok(object) = object_file(alloc, &built.face.face().module) else {
+    let Ok(object) = object_file(alloc, built.face.module()) else {
         return Err(Stop::Memory);
     };
-    let Ok(symbol) = symbol_file(alloc, &built.face.face().module) else {
+    let Ok(symbol) = symbol_file(alloc, built.face.module()) else {
         return Err(Stop::Memory);
     };
     let Ok(object) = str::from_utf8(&object) else {

@@ -8,8 +8,9 @@ ghost use Rattle.ob_cmp.specs.Verdicts.{no_face};
 ghost use Rattle.ob_shell_model.specs.Files.{stood, IsOf};
 ghost use Rattle.ob_shell_session.specs.Found.{found_as, HasSpelling};
 
-use crate::found::SymbolFile;
-use ob_cmp::{Kind, Verdict, compare};
+use crate::found::SymbolFile as Earlier;
+use ob_cmp::{Kind, Verdict, compare_file};
+use ob_env_files::SymbolFile;
 use ob_shell_reports::Counts;
 use ob_tree::{List, Name};
 use ob_types::Interface;
@@ -104,13 +105,13 @@ fn count(objects: usize, verdicts: &[Verdict]) -> Counts
 
 // Counts the objects of an interface beside another one.
 #[tactic(auto, using(crate::proofs::Counted::counts_are))]
-fn count_between(alloc: Global, old: &Interface, new: &Interface) -> Result<Counts, AllocError>
+fn count_between(alloc: Global, old: &Interface, new: &SymbolFile) -> Result<Counts, AllocError>
     requires old { face_form.fits old.now }
     requires new { face_form.fits new.now }
     ensures { IfOk result (λ c. c ≡ counts_between (face_of old.now) (face_of new.now)) }
 {
-    let verdicts = compare(alloc, old, new)?;
-    Ok(count(new.objects.len(), verdicts.as_slice()))
+    let verdicts = compare_file(alloc, old, new)?;
+    Ok(count(new.objects().len(), verdicts.as_slice()))
 }
 
 // An interface without objects.
@@ -127,22 +128,22 @@ fn no_face(alloc: Global, name: &Name) -> Interface
 
 // Counts the objects of an interface where none stood there.
 #[tactic(auto, using(crate::proofs::Counted::no_face_fits))]
-fn count_new(alloc: Global, face: &Interface) -> Result<Counts, AllocError>
+fn count_new(alloc: Global, face: &SymbolFile) -> Result<Counts, AllocError>
     requires { face_form.fits face.now }
     ensures { IfOk result (λ c. c ≡ counts_between (no_face face.now.«module») (face_of face.now)) }
 {
-    let old = no_face(alloc, &face.module);
+    let old = no_face(alloc, face.module());
     let counts = count_between(alloc, &old, face)?;
     Ok(counts)
 }
 
 // Counts the objects of an interface beside one that was read, of whatever module.
-fn count_beside(alloc: Global, old: &Interface, face: &Interface) -> Result<Counts, AllocError>
+fn count_beside(alloc: Global, old: &Interface, face: &SymbolFile) -> Result<Counts, AllocError>
     requires old { face_form.fits old.now }
     requires face { face_form.fits face.now }
     ensures { IfOk result (λ c. c ≡ counts_between (stood face.now.«module» (IsOf old.now)) (face_of face.now)) }
 {
-    if face.module.as_bytes() == old.module.as_bytes() {
+    if face.module().as_bytes() == old.module.as_bytes() {
         let counts = count_between(alloc, old, face)?;
         return Ok(counts);
     }
@@ -154,17 +155,17 @@ fn count_beside(alloc: Global, old: &Interface, face: &Interface) -> Result<Coun
 /// alone.
 pub fn count_objects(
     alloc: Global,
-    symbols: &SymbolFile,
-    face: &Interface,
+    symbols: &Earlier,
+    face: &SymbolFile,
 ) -> Result<Counts, AllocError>
     requires symbols { HasSpelling symbols.now }
     requires face { face_form.fits face.now }
     ensures { IfOk result (λ c. c ≡ counts_between (stood face.now.«module» (found_as symbols.now)) (face_of face.now)) }
 {
     match symbols {
-        SymbolFile::Missing => count_new(alloc, face),
-        SymbolFile::Long => count_new(alloc, face),
-        SymbolFile::Damaged => count_new(alloc, face),
-        SymbolFile::Of(old) => count_beside(alloc, old, face),
+        Earlier::Missing => count_new(alloc, face),
+        Earlier::Long => count_new(alloc, face),
+        Earlier::Damaged => count_new(alloc, face),
+        Earlier::Of(old) => count_beside(alloc, old, face),
     }
 }

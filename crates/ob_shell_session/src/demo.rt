@@ -42,8 +42,8 @@ fn put_file(folder: &mut MemFolder, name: &str, bytes: &[u8]) -> Result<(), Allo
 fn put_both(alloc: Global, folder: &mut MemFolder, built: &Built) -> Result<(), AllocError>
     ensures { OnOk result (SameFiles (file_in folder.new.pairs) (changed (file_in folder.old.pairs) ((object_file_name built.now.face.«module», built.now.obj) ∷ (symbol_name built.now.face.«module», built.now.sym) ∷ []))) }
 {
-    let object = object_file(alloc, &built.face.face().module)?;
-    let symbol = symbol_file(alloc, &built.face.face().module)?;
+    let object = object_file(alloc, built.face.module())?;
+    let symbol = symbol_file(alloc, built.face.module())?;
     let Ok(object) = str::from_utf8(&object) else {
         return Err(AllocError);
     };
@@ -86,7 +86,7 @@ fn make_file<C: Compile>(
     match compiler.compile(alloc, folder, file) {
         Ok(built) => {
             put_both(alloc, folder, &built)?;
-            Ok(Some(built.face.face().objects.len() as u32))
+            Ok(Some(built.face.objects().len() as u32))
         }
         Err(CompileFault::Refused(_)) => Ok(None),
         Err(CompileFault::Folder) => Err(AllocError),

@@ -1,6 +1,6 @@
 //! Names of objects, alone and with their modules.
 
-ghost use Rattle.std.specs.Prelude.{◌≡◌, ◌↔◌, IsTrue, IfOk};
+ghost use Rattle.std.specs.Prelude.{◌≡◌, ◌↔◌, IsTrue, IfOk, nat_le, length, Some, None, if◌then◌else◌};
 ghost use Rattle.std.specs.Cmp.Lexicographic.{slice_cmp};
 ghost use Rattle.std.specs.Ordering.{nat_cmp};
 
@@ -9,6 +9,7 @@ use crate::name::Name;
 use crate::spelling::Spelling;
 use std::alloc::{AllocError, Global};
 use std::cmp::Ordering;
+use std::hash::{Hash, Hasher};
 use std::marker::Model;
 
 /// The name of an object in its module: an identifier, or the name that is derived for a type
@@ -39,6 +40,16 @@ impl ObjName {
     {
         let bytes = Spelling::from_slice(alloc, bytes)?;
         Ok(ObjName { bytes })
+    }
+
+    /// The object name of these bytes, where they are at most 14. Takes no memory.
+    pub fn short(bytes: &[u8]) -> Option<ObjName>
+        ensures { result ≡ (if nat_le (length bytes.now) 14 then Some bytes.now else None) }
+    {
+        match Spelling::short(bytes) {
+            Some(bytes) => Some(ObjName { bytes }),
+            None => None,
+        }
     }
 
     /// The object name that is this identifier.
@@ -93,6 +104,26 @@ impl PartialEq for ObjName {
 
     fn eq(&self, other: &Self) -> bool {
         self.as_bytes() == other.as_bytes()
+    }
+}
+
+impl Eq for ObjName {
+    ghost use Rattle.std.proofs.lemmas.Cmp.{nat_list_eq_equiv};
+
+    ghost laws = { nat_list_eq_equiv };
+}
+
+impl Hash for ObjName {
+    ghost use Rattle.std.specs.Prelude.{[], ◌∷◌};
+    ghost use Rattle.std.specs.Cmp.Lexicographic.{bytes_decides};
+    ghost use Rattle.std.proofs.Common.{ap};
+
+    ghost hash_input = { λ n. n ∷ [] };
+
+    ghost respects_eq = { λ x y h. ap (λ n. n ∷ []) ((bytes_decides x y).0 h) };
+
+    fn hash<H: Hasher>(&self, state: &mut H) {
+        state.write(self.as_bytes());
     }
 }
 

@@ -1,6 +1,6 @@
 //! Bytes, of which a few need no block of their own.
 
-ghost use Rattle.std.specs.Prelude.{◌≡◌, ◌≤◌, ◌-◌, ◌++◌, length, replicate, IfOk};
+ghost use Rattle.std.specs.Prelude.{◌≡◌, ◌≤◌, ◌-◌, ◌++◌, length, replicate, nat_le, Some, None, IfOk, if◌then◌else◌};
 
 use crate::list::List;
 use std::alloc::{AllocError, Global};
@@ -47,23 +47,36 @@ fn short(text: &[u8]) -> [u8; 14]
 }
 
 impl Spelling {
-    /// These bytes. Takes memory for more than 14 of them alone.
+    /// These bytes, where they are at most 14. Takes no memory.
     #[inline(always)]
-    pub fn from_slice(alloc: Global, text: &[u8]) -> Result<Spelling, AllocError>
-        ensures { IfOk result (λ s. s ≡ text.now) }
+    pub fn short(text: &[u8]) -> Option<Spelling>
+        ensures { result ≡ (if nat_le (length text.now) 14 then Some text.now else None) }
     {
         if text.len() <= SHORT {
-            Ok(Spelling {
+            Some(Spelling {
                 held: Held::Short {
                     len: text.len() as u8,
                     bytes: short(text),
                 },
             })
         } else {
-            let bytes = List::from_slice(alloc, text)?;
-            Ok(Spelling {
-                held: Held::Long(Box::new(alloc, bytes)?),
-            })
+            None
+        }
+    }
+
+    /// These bytes. Takes memory for more than 14 of them alone.
+    #[inline(always)]
+    pub fn from_slice(alloc: Global, text: &[u8]) -> Result<Spelling, AllocError>
+        ensures { IfOk result (λ s. s ≡ text.now) }
+    {
+        match Spelling::short(text) {
+            Some(spelling) => Ok(spelling),
+            None => {
+                let bytes = List::from_slice(alloc, text)?;
+                Ok(Spelling {
+                    held: Held::Long(Box::new(alloc, bytes)?),
+                })
+            }
         }
     }
 

@@ -1,18 +1,18 @@
-use Rattle.std.proofs.Common.{◌≡◌, ◌≤◌, length, ap, arith}
-use Rattle.ob_types.specs.declared.face.Interface.{Interface}
+use Rattle.std.proofs.Common.{◌≡◌, ◌≤◌, List, length, ap, arith}
+use Rattle.ob_types.specs.declared.face.Object.{Object}
 use Rattle.ob_shell_session.proofs.Demos.{few_objects}
 use Rattle.ob_shell_session.proofs.demo.make_file.Goals as goal
 
 pub overflow_cast-result : goal.overflow_cast-result
 overflow_cast-result g c =
     let f : length c.in-Ok.built.face.objects ≤ 4096 = few_objects c.in-Ok.built.face c.in-Ok.ensures.fits in
-    let e : length c.face.result.now.objects ≡ length c.in-Ok.built.face.objects = ap (λ (i : Interface). length i.objects) c.face.ensures in
+    let e : length c.objects.result.now ≡ length c.in-Ok.built.face.objects = ap (λ (l : List Object). length l) c.objects.ensures in
     let l = c.len.ensures in
     omega (arith, f, e, l)
 
 pub returns-in-Ok-clause-few : goal.returns-in-Ok-clause-few
 returns-in-Ok-clause-few g c =
     let f : length c.in-Ok.built.face.objects ≤ 4096 = few_objects c.in-Ok.built.face c.in-Ok.ensures.fits in
-    let e : length c.face.result.now.objects ≡ length c.in-Ok.built.face.objects = ap (λ (i : Interface). length i.objects) c.face.ensures in
+    let e : length c.objects.result.now ≡ length c.in-Ok.built.face.objects = ap (λ (l : List Object). length l) c.objects.ensures in
     let l = c.len.ensures in
     omega (arith, f, e, l)
