@@ -10,9 +10,9 @@ ghost use Rattle.ob_scheme.specs.Coded.{Coded, appended};
 ghost use Rattle.ob_scheme.specs.Expressions.{words_of_actuals, words_behind_receiver, call_line};
 
 use crate::types::put_declared;
-use ob_gexpr_code::{Code, GenFault, Scope, put_placed, put_typed_and};
+use ob_gexpr_code::{Code, CodeFault, Scope, put_placed, put_typed_and};
 use ob_instr::Opcode;
-use ob_tree::{Pos, Which};
+use ob_tree::Pos;
 use ob_types::{Actual, Callee, OutProcedure, Passing, Receiver};
 
 fn slots_of(how: Passing) -> u32
@@ -25,21 +25,21 @@ fn slots_of(how: Passing) -> u32
     }
 }
 
-fn add_words(words: u32, more: u32) -> Result<u32, GenFault>
+fn add_words(words: u32, more: u32) -> Result<u32, CodeFault>
     requires words { words < 2 ^ 30 }
     requires more { more < 3 }
     ensures is { IfOk result (λ n. n ≡ words + more) }
     ensures within { IfOk result (λ n. n < 2 ^ 30) }
 {
     if words > 1 << 20 {
-        return Err(GenFault::Limit(Which::Operands));
+        return Err(CodeFault::Beyond);
     }
     Ok(words + more)
 }
 
 /// How many words the actual parameters have.
 #[tactic(auto, using(ob_scheme::proofs::Actuals::words_turn))]
-pub fn count_words(actuals: &[Actual]) -> Result<u32, GenFault>
+pub fn count_words(actuals: &[Actual]) -> Result<u32, CodeFault>
     ensures is { IfOk result (λ n. n ≡ words_of_actuals (actuals_view actuals.now)) }
     ensures within { IfOk result (λ n. n < 2 ^ 30) }
 {
@@ -62,14 +62,14 @@ fn out_number(procedure: OutProcedure) -> i32
 }
 
 /// The call of a procedure variable.
-pub fn put_held_call(code: &mut Code, actuals: &[Actual], at: Pos) -> Result<(), GenFault>
+pub fn put_held_call(code: &mut Code, actuals: &[Actual], at: Pos) -> Result<(), CodeFault>
     ensures { OnOk result (code.new ≡ appended code.old (placed Opcode.CallV (count (words_of_actuals (actuals_view actuals.now))) at ∷ [])) }
 {
     let words = count_words(actuals)?;
     put_placed(code, Opcode::CallV, words as i32, at)
 }
 
-fn count_behind(actuals: &[Actual]) -> Result<u32, GenFault>
+fn count_behind(actuals: &[Actual]) -> Result<u32, CodeFault>
     ensures is { IfOk result (λ n. n ≡ words_behind_receiver (actuals_view actuals.now)) }
     ensures within { IfOk result (λ n. n < 2 ^ 30) }
 {
@@ -85,14 +85,14 @@ fn put_bound_call(
     number: i32,
     actuals: &[Actual],
     at: Pos,
-) -> Result<(), GenFault>
+) -> Result<(), CodeFault>
     ensures { OnOk result (code.new ≡ appended code.old (placed_two op (Number number) (count (words_behind_receiver (actuals_view actuals.now))) at ∷ [])) }
 {
     let words = count_behind(actuals)?;
     code.put(op, number, words as i32, Some(at))
 }
 
-fn put_out(code: &mut Code, procedure: OutProcedure, at: Pos) -> Result<(), GenFault>
+fn put_out(code: &mut Code, procedure: OutProcedure, at: Pos) -> Result<(), CodeFault>
     ensures { OnOk result (code.new ≡ appended code.old (placed Opcode.Out (count (out_number procedure)) at ∷ [])) }
 {
     put_placed(code, Opcode::Out, out_number(procedure), at)
@@ -105,7 +105,7 @@ pub fn put_call<S: Scope>(
     callee: &Callee,
     actuals: &[Actual],
     at: Pos,
-) -> Result<(), GenFault>
+) -> Result<(), CodeFault>
     ensures { OnOk result (code.new ≡ appended code.old (call_line (S.context scope.now) callee.now (actuals_view actuals.now) at ∷ [])) }
 {
     match callee {

@@ -6,10 +6,10 @@ ghost use Rattle.ob_scheme.specs.Operations.{truth_word, set_word};
 ghost use Rattle.ob_scheme.specs.Coded.{Coded, appended};
 ghost use Rattle.ob_scheme.specs.Expressions.{string_line, text_code, constant_code};
 
-use ob_gexpr_code::{Code, GenFault, put_count, put_plain};
+use ob_gexpr_code::{Code, CodeFault, put_count, put_plain};
 use ob_instr::Opcode;
 use ob_scheme::Want;
-use ob_tree::{Text, Which};
+use ob_tree::Text;
 use ob_types::Value;
 
 fn truth_word(b: bool) -> i32
@@ -28,25 +28,25 @@ fn set_word(set: u32) -> i32
     }
 }
 
-fn words_of(text: &Text) -> Result<u32, GenFault>
+fn words_of(text: &Text) -> Result<u32, CodeFault>
     ensures is { IfOk result (λ n. n ≡ suc (length text.now)) }
     ensures within { IfOk result (λ n. n < 2 ^ 31) }
 {
     let length = text.len();
     if length >= 1 << 30 {
-        return Err(GenFault::Limit(Which::Globals));
+        return Err(CodeFault::Beyond);
     }
     Ok(length as u32 + 1)
 }
 
-fn put_whole(code: &mut Code, text: &Text) -> Result<(), GenFault>
+fn put_whole(code: &mut Code, text: &Text) -> Result<(), CodeFault>
     ensures { OnOk result (code.new ≡ appended code.old (string_line text.now (suc (length text.now)) ∷ [])) }
 {
     let words = words_of(text)?;
     code.put_string(text, words)
 }
 
-fn put_text_length(code: &mut Code, text: &Text) -> Result<(), GenFault>
+fn put_text_length(code: &mut Code, text: &Text) -> Result<(), CodeFault>
     ensures { OnOk result (code.new ≡ appended code.old (plain Opcode.Int (count (suc (length text.now))) ∷ [])) }
 {
     let words = words_of(text)?;
@@ -54,7 +54,7 @@ fn put_text_length(code: &mut Code, text: &Text) -> Result<(), GenFault>
 }
 
 #[tactic(auto, using(ob_scheme::proofs::Appends::put_more))]
-fn put_measured(code: &mut Code, text: &Text) -> Result<(), GenFault>
+fn put_measured(code: &mut Code, text: &Text) -> Result<(), CodeFault>
     ensures { OnOk result (code.new ≡ appended code.old (string_line text.now (suc (length text.now)) ∷ plain Opcode.Int (count (suc (length text.now))) ∷ [])) }
 {
     put_whole(code, text)?;
@@ -62,7 +62,7 @@ fn put_measured(code: &mut Code, text: &Text) -> Result<(), GenFault>
 }
 
 /// A constant: its word; a string is laid down.
-pub fn put_constant(code: &mut Code, want: Want, value: &Value) -> Result<(), GenFault>
+pub fn put_constant(code: &mut Code, want: Want, value: &Value) -> Result<(), CodeFault>
     ensures { OnOk result (code.new ≡ appended code.old (constant_code want value.now)) }
 {
     match value {
@@ -75,7 +75,7 @@ pub fn put_constant(code: &mut Code, want: Want, value: &Value) -> Result<(), Ge
     }
 }
 
-fn put_string(code: &mut Code, want: Want, text: &Text) -> Result<(), GenFault>
+fn put_string(code: &mut Code, want: Want, text: &Text) -> Result<(), CodeFault>
     ensures { OnOk result (code.new ≡ appended code.old (text_code want text.now)) }
 {
     match want {

@@ -18,10 +18,9 @@ use crate::pieces::{put_binary, put_unary};
 use crate::places::{put_field, put_from_pointer, put_index, put_variable};
 use crate::relations::put_relation;
 use crate::types::{put_from_guard, put_procedure_value};
-use ob_gexpr_code::{Code, GenFault, Scope, put_count, put_typed, want_for};
+use ob_gexpr_code::{Code, CodeFault, Scope, put_count, put_typed, want_for};
 use ob_instr::Opcode;
 use ob_scheme::{Want, want_for_guard, want_for_index};
-use ob_tree::Which;
 use ob_types::{Actual, Connective, Designator, TypedExpr};
 use std::alloc::{AllocError, Global};
 
@@ -111,7 +110,7 @@ pub fn put_designator<S: Scope>(
     scope: &S,
     want: Want,
     d: &Designator,
-) -> Result<(), GenFault>
+) -> Result<(), CodeFault>
     ensures { OnOk result (code.new ≡ appended code.old (desig_code (S.context scope.now) want (designator_view d.now) (place_in code.old))) }
 {
     if let Designator::Variable { variable, of } = d {
@@ -132,7 +131,7 @@ fn put_selector<S: Scope>(
     scope: &S,
     want: Want,
     d: &Designator,
-) -> Result<(), GenFault>
+) -> Result<(), CodeFault>
     ensures { OnOk result (code.new ≡ with_selector (S.context scope.now) want (designator_view d.now) code.old) }
 {
     match d {
@@ -170,7 +169,7 @@ pub fn put_expr<S: Scope>(
     scope: &S,
     want: Want,
     e: &TypedExpr,
-) -> Result<(), GenFault>
+) -> Result<(), CodeFault>
     ensures { OnOk result (code.new ≡ appended code.old (expr_code (S.context scope.now) want (expr_view e.now) (place_in code.old))) }
 {
     if left_of(e).is_none() {
@@ -191,7 +190,7 @@ fn put_operator<S: Scope>(
     scope: &S,
     want: Want,
     e: &TypedExpr,
-) -> Result<(), GenFault>
+) -> Result<(), CodeFault>
     ensures { OnOk result (code.new ≡ with_operator (S.context scope.now) want (expr_view e.now) code.old) }
 {
     match e {
@@ -270,7 +269,7 @@ fn put_operator<S: Scope>(
 }
 
 #[cycle(put_expr)]
-fn put_actual<S: Scope>(code: &mut Code, scope: &S, actual: &Actual) -> Result<(), GenFault>
+fn put_actual<S: Scope>(code: &mut Code, scope: &S, actual: &Actual) -> Result<(), CodeFault>
     ensures { OnOk result (code.new ≡ appended code.old (expr_code (S.context scope.now) (wanted (words (S.context scope.now)) actual.now.passing actual.now.formal) (expr_view actual.now.value) (place_in code.old))) }
 {
     let want = want_for(scope, actual.passing, &actual.formal)?;
@@ -278,7 +277,7 @@ fn put_actual<S: Scope>(code: &mut Code, scope: &S, actual: &Actual) -> Result<(
 }
 
 #[cycle(put_expr)]
-fn put_actuals<S: Scope>(code: &mut Code, scope: &S, actuals: &[Actual]) -> Result<(), GenFault>
+fn put_actuals<S: Scope>(code: &mut Code, scope: &S, actuals: &[Actual]) -> Result<(), CodeFault>
     ensures { OnOk result (code.new ≡ appended code.old (actuals_code (S.context scope.now) (actuals_view actuals.now) (place_in code.old))) }
 {
     'actuals: for actual in actuals {
@@ -288,13 +287,13 @@ fn put_actuals<S: Scope>(code: &mut Code, scope: &S, actuals: &[Actual]) -> Resu
 }
 
 // A jump to so many instructions further.
-fn put_ahead(code: &mut Code, op: Opcode, by: u32) -> Result<(), GenFault>
+fn put_ahead(code: &mut Code, op: Opcode, by: u32) -> Result<(), CodeFault>
     requires { by < 10 }
     ensures { OnOk result (code.new ≡ appended code.old (plain op (count (length code.old.instrs + by)) ∷ [])) }
 {
     let place = code.place();
     if place >= 1 << 30 {
-        return Err(GenFault::Limit(Which::Code));
+        return Err(CodeFault::Beyond);
     }
     put_count(code, op, place as u32 + by)
 }

@@ -5,7 +5,7 @@ ghost use Rattle.ob_scheme.specs.Coded.{Coded, appended};
 ghost use Rattle.ob_scheme.specs.Operations.{unary_code, binary_line, comparison_code};
 ghost use Rattle.ob_scheme.specs.Expressions.{first_word, both_words, second_word, pair_code, behind_guard};
 
-use ob_gexpr_code::{Code, GenFault, bytes_of, put_bare, put_bare_at, put_count, put_placed};
+use ob_gexpr_code::{Code, CodeFault, bytes_of, put_bare, put_bare_at, put_count, put_placed};
 use ob_instr::Opcode;
 use ob_scheme::Want;
 use ob_tree::Pos;
@@ -26,7 +26,7 @@ fn comparison_opcode(comparison: Comparison) -> Opcode
 
 /// A sign, ~ or a predeclared function of one value.
 #[tactic(auto, using(ob_scheme::proofs::Appends::appended_none))]
-pub fn put_unary(code: &mut Code, op: Unary, at: Pos) -> Result<(), GenFault>
+pub fn put_unary(code: &mut Code, op: Unary, at: Pos) -> Result<(), CodeFault>
     ensures { OnOk result (code.new ≡ appended code.old (unary_code op at)) }
 {
     match op {
@@ -45,7 +45,7 @@ pub fn put_unary(code: &mut Code, op: Unary, at: Pos) -> Result<(), GenFault>
 }
 
 /// An operator, a relation or ASH.
-pub fn put_binary(code: &mut Code, op: Binary, at: Pos) -> Result<(), GenFault>
+pub fn put_binary(code: &mut Code, op: Binary, at: Pos) -> Result<(), CodeFault>
     ensures { OnOk result (code.new ≡ appended code.old (binary_line op at ∷ [])) }
 {
     match op {
@@ -67,7 +67,7 @@ pub fn put_binary(code: &mut Code, op: Binary, at: Pos) -> Result<(), GenFault>
 
 // The value or the address that the first word of a parameter has.
 #[tactic(auto, using(ob_scheme::proofs::Appends::put_more, ob_scheme::proofs::Appends::put_two))]
-fn put_first(code: &mut Code, slot: u32) -> Result<(), GenFault>
+fn put_first(code: &mut Code, slot: u32) -> Result<(), CodeFault>
     requires { slot < 2 ^ 30 }
     ensures { OnOk result (code.new ≡ appended code.old (first_word slot)) }
 {
@@ -76,7 +76,7 @@ fn put_first(code: &mut Code, slot: u32) -> Result<(), GenFault>
 }
 
 #[tactic(auto, using(ob_scheme::proofs::Appends::put_more, ob_scheme::proofs::Appends::put_two))]
-fn put_second(code: &mut Code, slot: u32) -> Result<(), GenFault>
+fn put_second(code: &mut Code, slot: u32) -> Result<(), CodeFault>
     requires { slot < 2 ^ 30 }
     ensures { OnOk result (code.new ≡ appended code.old (second_word slot)) }
 {
@@ -85,7 +85,7 @@ fn put_second(code: &mut Code, slot: u32) -> Result<(), GenFault>
 }
 
 #[tactic(auto, using(ob_scheme::proofs::Appends::put_more, ob_scheme::proofs::Appends::put_two))]
-fn put_both(code: &mut Code, slot: u32) -> Result<(), GenFault>
+fn put_both(code: &mut Code, slot: u32) -> Result<(), CodeFault>
     requires { slot < 2 ^ 30 }
     ensures { OnOk result (code.new ≡ appended code.old (both_words slot)) }
 {
@@ -94,7 +94,7 @@ fn put_both(code: &mut Code, slot: u32) -> Result<(), GenFault>
 }
 
 /// A parameter of two words.
-pub fn put_pair(code: &mut Code, slot: u32, want: Want) -> Result<(), GenFault>
+pub fn put_pair(code: &mut Code, slot: u32, want: Want) -> Result<(), CodeFault>
     requires { slot < 2 ^ 30 }
     ensures { OnOk result (code.new ≡ appended code.old (pair_code slot want)) }
 {
@@ -107,7 +107,7 @@ pub fn put_pair(code: &mut Code, slot: u32, want: Want) -> Result<(), GenFault>
 
 /// Behind the guard of a VAR record.
 #[tactic(auto, using(ob_scheme::proofs::Appends::appended_none))]
-pub fn put_behind_guard(code: &mut Code, want: Want) -> Result<(), GenFault>
+pub fn put_behind_guard(code: &mut Code, want: Want) -> Result<(), CodeFault>
     ensures { OnOk result (code.new ≡ appended code.old (behind_guard want)) }
 {
     match want {

@@ -9,14 +9,14 @@ ghost use Rattle.ob_scheme.specs.Expressions.{index_line, measured_behind, lengt
 
 use crate::pieces::put_pair;
 use crate::types::put_tag;
-use ob_gexpr_code::{Code, GenFault, Scope, put_bare, put_bare_at, put_count, put_plain};
+use ob_gexpr_code::{Code, CodeFault, Scope, put_bare, put_bare_at, put_count, put_plain};
 use ob_instr::Opcode;
 use ob_scheme::Want;
-use ob_tree::{CompactName, Name, Pos, QName, Which};
+use ob_tree::{CompactName, Name, Pos, QName};
 use ob_types::{Passing, TypeRef, Variable};
 
 // The length of an array of a fixed length.
-fn put_length<S: Scope>(code: &mut Code, scope: &S, of: &TypeRef) -> Result<(), GenFault>
+fn put_length<S: Scope>(code: &mut Code, scope: &S, of: &TypeRef) -> Result<(), CodeFault>
     ensures { OnOk result (code.new ≡ appended code.old (plain Opcode.Int (length_operand (elements_of (S.context scope.now).types of.now)) ∷ [])) }
 {
     match scope.elements(of)? {
@@ -32,7 +32,7 @@ pub fn put_from_place<S: Scope>(
     scope: &S,
     want: Want,
     of: &TypeRef,
-) -> Result<(), GenFault>
+) -> Result<(), CodeFault>
     ensures { OnOk result (code.new ≡ appended code.old (from_place (S.context scope.now) want of.now)) }
 {
     match want {
@@ -44,7 +44,12 @@ pub fn put_from_place<S: Scope>(
 }
 
 #[tactic(auto, using(ob_scheme::proofs::Appends::put_more))]
-fn put_measured<S: Scope>(code: &mut Code, scope: &S, of: &TypeRef, at: Pos) -> Result<(), GenFault>
+fn put_measured<S: Scope>(
+    code: &mut Code,
+    scope: &S,
+    of: &TypeRef,
+    at: Pos,
+) -> Result<(), CodeFault>
     ensures { OnOk result (code.new ≡ appended code.old (measured_behind (elements_of (S.context scope.now).types of.now) at)) }
 {
     match scope.elements(of)? {
@@ -57,7 +62,7 @@ fn put_measured<S: Scope>(code: &mut Code, scope: &S, of: &TypeRef, at: Pos) -> 
 }
 
 #[tactic(auto, using(ob_scheme::proofs::Appends::put_more))]
-fn put_pointee_value(code: &mut Code, at: Pos) -> Result<(), GenFault>
+fn put_pointee_value(code: &mut Code, at: Pos) -> Result<(), CodeFault>
     ensures { OnOk result (code.new ≡ appended code.old (bare_at Opcode.Deref at ∷ bare Opcode.Load ∷ [])) }
 {
     put_bare_at(code, Opcode::Deref, at)?;
@@ -65,7 +70,7 @@ fn put_pointee_value(code: &mut Code, at: Pos) -> Result<(), GenFault>
 }
 
 #[tactic(auto, using(ob_scheme::proofs::Appends::put_more))]
-fn put_open_length(code: &mut Code, at: Pos) -> Result<(), GenFault>
+fn put_open_length(code: &mut Code, at: Pos) -> Result<(), CodeFault>
     ensures { OnOk result (code.new ≡ appended code.old (bare_at Opcode.Deref at ∷ plain Opcode.Offset (Number (negsuc 0)) ∷ bare Opcode.Load ∷ [])) }
 {
     put_bare_at(code, Opcode::Deref, at)?;
@@ -81,7 +86,7 @@ pub fn put_from_pointer<S: Scope>(
     want: Want,
     of: &TypeRef,
     at: Pos,
-) -> Result<(), GenFault>
+) -> Result<(), CodeFault>
     ensures { OnOk result (code.new ≡ appended code.old (from_pointer (S.context scope.now) want of.now at)) }
 {
     match want {
@@ -101,7 +106,7 @@ fn put_own<S: Scope>(
     slot: i32,
     want: Want,
     of: &TypeRef,
-) -> Result<(), GenFault>
+) -> Result<(), CodeFault>
     ensures { OnOk result (code.new ≡ appended code.old (plain Opcode.Local (Number slot) ∷ from_place (S.context scope.now) want of.now)) }
 {
     put_plain(code, Opcode::Local, slot)?;
@@ -115,7 +120,7 @@ fn put_held<S: Scope>(
     slot: u32,
     want: Want,
     of: &TypeRef,
-) -> Result<(), GenFault>
+) -> Result<(), CodeFault>
     requires { slot < 2 ^ 30 }
     ensures { OnOk result (code.new ≡ appended code.old (held_place (S.context scope.now) slot want of.now)) }
 {
@@ -131,7 +136,7 @@ fn put_slot<S: Scope>(
     slot: u32,
     want: Want,
     of: &TypeRef,
-) -> Result<(), GenFault>
+) -> Result<(), CodeFault>
     requires { slot < 2 ^ 30 }
     ensures { OnOk result (code.new ≡ appended code.old (own_place (S.context scope.now) slot want of.now)) }
 {
@@ -146,7 +151,7 @@ fn put_parameter<S: Scope>(
     slot: u32,
     want: Want,
     of: &TypeRef,
-) -> Result<(), GenFault>
+) -> Result<(), CodeFault>
     requires { slot < 2 ^ 30 }
     ensures { OnOk result (code.new ≡ appended code.old (parameter_code (S.context scope.now) how slot want of.now)) }
 {
@@ -167,7 +172,7 @@ fn put_global<S: Scope>(
     name: &CompactName,
     want: Want,
     of: &TypeRef,
-) -> Result<(), GenFault>
+) -> Result<(), CodeFault>
     ensures { OnOk result (code.new ≡ appended code.old (module_line (S.context scope.now) unit.now name.now ∷ from_place (S.context scope.now) want of.now)) }
 {
     put_module_line(code, scope, unit, name)?;
@@ -179,7 +184,7 @@ fn put_module_line<S: Scope>(
     scope: &S,
     unit: &CompactName,
     name: &CompactName,
-) -> Result<(), GenFault>
+) -> Result<(), CodeFault>
     ensures { OnOk result (code.new ≡ appended code.old (module_line (S.context scope.now) unit.now name.now ∷ [])) }
 {
     if scope.is_own(unit.as_bytes()) {
@@ -196,7 +201,7 @@ pub fn put_variable<S: Scope>(
     want: Want,
     variable: &Variable,
     of: &TypeRef,
-) -> Result<(), GenFault>
+) -> Result<(), CodeFault>
     ensures { OnOk result (code.new ≡ appended code.old (variable_code (S.context scope.now) want variable.now of.now)) }
 {
     match variable {
@@ -213,17 +218,17 @@ pub fn put_variable<S: Scope>(
     }
 }
 
-fn put_index_line(code: &mut Code, length: u32, words: u32, at: Pos) -> Result<(), GenFault>
+fn put_index_line(code: &mut Code, length: u32, words: u32, at: Pos) -> Result<(), CodeFault>
     requires { words < 2 ^ 31 }
     ensures { OnOk result (code.new ≡ appended code.old (placed_two Opcode.Index (count length) (count words) at ∷ [])) }
 {
     if length >= 1 << 31 {
-        return Err(GenFault::Limit(Which::Words));
+        return Err(CodeFault::Beyond);
     }
     code.put(Opcode::Index, length as i32, words as i32, Some(at))
 }
 
-fn put_open_index_line(code: &mut Code, words: u32, at: Pos) -> Result<(), GenFault>
+fn put_open_index_line(code: &mut Code, words: u32, at: Pos) -> Result<(), CodeFault>
     requires { words < 2 ^ 31 }
     ensures { OnOk result (code.new ≡ appended code.old (placed Opcode.IndexO (count words) at ∷ [])) }
 {
@@ -236,7 +241,7 @@ fn put_any_index<S: Scope>(
     length: Option<u32>,
     of: &TypeRef,
     at: Pos,
-) -> Result<(), GenFault>
+) -> Result<(), CodeFault>
     ensures { OnOk result (code.new ≡ appended code.old (index_line (S.context scope.now) length of.now at ∷ [])) }
 {
     let words = scope.words(of)?;
@@ -255,7 +260,7 @@ pub fn put_index<S: Scope>(
     want: Want,
     of: &TypeRef,
     at: Pos,
-) -> Result<(), GenFault>
+) -> Result<(), CodeFault>
     ensures { OnOk result (code.new ≡ appended code.old (index_line (S.context scope.now) length of.now at ∷ from_place (S.context scope.now) want of.now)) }
 {
     put_any_index(code, scope, length, of, at)?;
@@ -271,7 +276,7 @@ pub fn put_field<S: Scope>(
     name: &Name,
     want: Want,
     of: &TypeRef,
-) -> Result<(), GenFault>
+) -> Result<(), CodeFault>
     ensures { OnOk result (code.new ≡ appended code.old (plain Opcode.Offset (count (field_place (S.context scope.now).types owner.now name.now)) ∷ from_place (S.context scope.now) want of.now)) }
 {
     let place = scope.field_place(owner, name)?;

@@ -5,7 +5,7 @@ ghost use Rattle.ob_scheme.specs.Lines.{placed, count};
 ghost use Rattle.ob_scheme.specs.Operations.{relation_number};
 ghost use Rattle.ob_scheme.specs.Coded.{Coded, appended};
 
-use ob_gexpr_code::{Code, GenFault, put_placed};
+use ob_gexpr_code::{Code, CodeFault, put_placed};
 use ob_instr::Opcode;
 use ob_tree::Pos;
 use ob_types::Comparison;
@@ -24,7 +24,7 @@ fn number_of(comparison: Comparison) -> i32
 }
 
 /// A relation of strings and character arrays, whose places and lengths were put.
-pub fn put_relation(code: &mut Code, comparison: Comparison, at: Pos) -> Result<(), GenFault>
+pub fn put_relation(code: &mut Code, comparison: Comparison, at: Pos) -> Result<(), CodeFault>
     ensures { OnOk result (code.new ≡ appended code.old (placed Opcode.StrRel (count (relation_number comparison)) at ∷ [])) }
 {
     put_placed(code, Opcode::StrRel, number_of(comparison), at)

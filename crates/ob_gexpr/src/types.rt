@@ -8,14 +8,14 @@ ghost use Rattle.ob_scheme.specs.Expressions.{guard_line, from_guard, procedure_
 
 use crate::pieces::put_behind_guard;
 use crate::places::put_from_place;
-use ob_gexpr_code::{Code, GenFault, Scope, put_typed};
+use ob_gexpr_code::{Code, CodeFault, Scope, put_typed};
 use ob_instr::Opcode;
 use ob_scheme::Want;
-use ob_tree::{Name, Pos, QName, Which};
+use ob_tree::{Name, Pos, QName};
 use ob_types::{Guarded, TypeRef};
 
 /// The tag of the record type that a type is.
-pub fn put_tag<S: Scope>(code: &mut Code, scope: &S, of: &TypeRef) -> Result<(), GenFault>
+pub fn put_tag<S: Scope>(code: &mut Code, scope: &S, of: &TypeRef) -> Result<(), CodeFault>
     ensures { OnOk result (code.new ≡ appended code.old (plain Opcode.Tag (record_operand (S.context scope.now) of.now) ∷ [])) }
 {
     match scope.record_of(of) {
@@ -31,7 +31,7 @@ pub fn put_guard<S: Scope>(
     guarded: Guarded,
     target: &QName,
     at: Pos,
-) -> Result<(), GenFault>
+) -> Result<(), CodeFault>
     ensures { OnOk result (code.new ≡ appended code.old (guard_line (S.context scope.now) guarded target.now at ∷ [])) }
 {
     match guarded {
@@ -41,11 +41,11 @@ pub fn put_guard<S: Scope>(
 }
 
 // The name of a procedure of another module, which is an identifier.
-fn name_of(name: &QName) -> Result<Name, GenFault>
+fn name_of(name: &QName) -> Result<Name, CodeFault>
     ensures { IfOk result (λ n. n ≡ name.now.object) }
 {
     if name.object.as_bytes().len() > 64 {
-        return Err(GenFault::Limit(Which::File));
+        return Err(CodeFault::Beyond);
     }
     Ok(Name::new(name.object.as_bytes()))
 }
@@ -55,7 +55,7 @@ pub fn put_procedure_value<S: Scope>(
     code: &mut Code,
     scope: &S,
     name: &QName,
-) -> Result<(), GenFault>
+) -> Result<(), CodeFault>
     ensures { OnOk result (code.new ≡ appended code.old (procedure_line (S.context scope.now) name.now ∷ [])) }
 {
     if scope.is_own(name.module.as_bytes()) {
@@ -72,7 +72,7 @@ pub fn put_declared<S: Scope>(
     scope: &S,
     name: &QName,
     at: Pos,
-) -> Result<(), GenFault>
+) -> Result<(), CodeFault>
     ensures { OnOk result (code.new ≡ appended code.old (declared_line (S.context scope.now) name.now at ∷ [])) }
 {
     if scope.is_own(name.module.as_bytes()) {
@@ -94,7 +94,7 @@ fn put_after_guard<S: Scope>(
     guarded: Guarded,
     want: Want,
     of: &TypeRef,
-) -> Result<(), GenFault>
+) -> Result<(), CodeFault>
     ensures { OnOk result (code.new ≡ appended code.old (from_guard (S.context scope.now) guarded want of.now)) }
 {
     match guarded {
@@ -113,7 +113,7 @@ pub fn put_from_guard<S: Scope>(
     want: Want,
     of: &TypeRef,
     at: Pos,
-) -> Result<(), GenFault>
+) -> Result<(), CodeFault>
     ensures { OnOk result (code.new ≡ appended code.old (guard_line (S.context scope.now) guarded target.now at ∷ from_guard (S.context scope.now) guarded want of.now)) }
 {
     put_guard(code, scope, guarded, target, at)?;

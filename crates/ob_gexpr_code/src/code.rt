@@ -6,12 +6,12 @@ ghost use Rattle.ob_scheme.specs.Numbers.{instr, same_type, number_among, with_p
 ghost use Rattle.ob_scheme.specs.Coded.{Coded, nothing_coded, appended, with_instr, with_type};
 ghost use Rattle.ob_gexpr_code.specs.Parts.{parts_of};
 
-use crate::fault::GenFault;
+use crate::fault::CodeFault;
 use crate::links::Links;
 use crate::type_links::TypeLinks;
 use ob_instr::{Instr, Opcode, Position};
 use ob_obj::{Link, StringConst};
-use ob_tree::{List, Name, Pos, QName, Text, Which};
+use ob_tree::{List, Name, Pos, QName, Text};
 use std::alloc::Global;
 use std::marker::Model;
 
@@ -51,46 +51,46 @@ impl Model for Code {
     ghost view = { λ c. record { instrs = c.instrs.items; positions = c.positions; named = record { strings = c.strings; next = c.next; variables = c.variables; procedures = c.procedures; types = c.types } } };
 }
 
-fn put_instr(instrs: &mut Vec<Instr>, op: Opcode, a: i32, b: i32) -> Result<(), GenFault>
+fn put_instr(instrs: &mut Vec<Instr>, op: Opcode, a: i32, b: i32) -> Result<(), CodeFault>
     ensures { OnOk result (instrs.new.items ≡ instrs.old.items ++ instr op a b ∷ []) }
 {
     match instrs.push(Instr { op, a, b }) {
         Ok(()) => Ok(()),
-        Err(_) => Err(GenFault::Memory),
+        Err(_) => Err(CodeFault::Memory),
     }
 }
 
-fn put_position(positions: &mut List<Position>, at: u32, pos: Option<Pos>) -> Result<(), GenFault>
+fn put_position(positions: &mut List<Position>, at: u32, pos: Option<Pos>) -> Result<(), CodeFault>
     ensures { OnOk result (positions.new ≡ positions.old ++ with_position pos at []) }
 {
     match pos {
         None => Ok(()),
         Some(pos) => match positions.push(Position { at, pos }) {
             Ok(()) => Ok(()),
-            Err(_) => Err(GenFault::Memory),
+            Err(_) => Err(CodeFault::Memory),
         },
     }
 }
 
-fn put_text(strings: &mut List<StringConst>, text: &Text, words: u32) -> Result<(), GenFault>
+fn put_text(strings: &mut List<StringConst>, text: &Text, words: u32) -> Result<(), CodeFault>
     ensures { OnOk result (strings.new ≡ strings.old ++ record { text = text.now; words = words } ∷ []) }
 {
     let Ok(text) = text.clone() else {
-        return Err(GenFault::Memory);
+        return Err(CodeFault::Memory);
     };
     match strings.push(StringConst { text, words }) {
         Ok(()) => Ok(()),
-        Err(_) => Err(GenFault::Memory),
+        Err(_) => Err(CodeFault::Memory),
     }
 }
 
 // The place of a string among the globals, and behind it the next one's.
-fn take_words(next: u32, words: u32) -> Result<u32, GenFault>
+fn take_words(next: u32, words: u32) -> Result<u32, CodeFault>
     ensures is { IfOk result (λ n. n ≡ next + words) }
     ensures within { IfOk result (λ n. next < 2 ^ 31) }
 {
     if next >= 1 << 31 || words >= 1 << 31 {
-        return Err(GenFault::Limit(Which::Globals));
+        return Err(CodeFault::Beyond);
     }
     Ok(next + words)
 }
@@ -124,12 +124,12 @@ impl Code {
     }
 
     /// One more instruction, with its position where it can trap or spend a turn.
-    pub fn put(&mut self, op: Opcode, a: i32, b: i32, at: Option<Pos>) -> Result<(), GenFault>
+    pub fn put(&mut self, op: Opcode, a: i32, b: i32, at: Option<Pos>) -> Result<(), CodeFault>
         ensures { OnOk result (self.new ≡ appended self.old (line_of op (Number a) (Number b) at ∷ [])) }
     {
         let place = self.instrs.len();
         if place >= MOST {
-            return Err(GenFault::Limit(Which::Code));
+            return Err(CodeFault::Beyond);
         }
         put_position(&mut self.positions, place as u32, at)?;
         put_instr(&mut self.instrs, op, a, b)?;
@@ -137,11 +137,11 @@ impl Code {
     }
 
     /// One more instruction, which names a variable of another module.
-    pub fn put_variable(&mut self, unit: &Name, name: &Name) -> Result<(), GenFault>
+    pub fn put_variable(&mut self, unit: &Name, name: &Name) -> Result<(), CodeFault>
         ensures { OnOk result (self.new ≡ appended self.old (line_of Opcode.ExtVar (OtherVariable unit.now name.now) none None ∷ [])) }
     {
         if self.instrs.len() >= MOST {
-            return Err(GenFault::Limit(Which::Code));
+            return Err(CodeFault::Beyond);
         }
         let number = self.variables.number(unit, name)?;
         put_instr(&mut self.instrs, Opcode::ExtVar, number as i32, 0)?;
@@ -156,13 +156,13 @@ impl Code {
         name: &QName,
         b: i32,
         at: Option<Pos>,
-    ) -> Result<(), GenFault>
+    ) -> Result<(), CodeFault>
         requires { own < 2 ^ 30 }
         ensures { OnOk result (self.new ≡ appended self.old (line_of op (OtherType own name.now) (Number b) at ∷ [])) }
     {
         let place = self.instrs.len();
         if place >= MOST {
-            return Err(GenFault::Limit(Which::Code));
+            return Err(CodeFault::Beyond);
         }
         let number = self.types.number(name)?;
         put_position(&mut self.positions, place as u32, at)?;
@@ -179,13 +179,13 @@ impl Code {
         own: u32,
         name: &QName,
         at: Pos,
-    ) -> Result<(), GenFault>
+    ) -> Result<(), CodeFault>
         requires { own < 2 ^ 30 }
         ensures { OnOk result (self.new ≡ appended self.old (line_of op (Number a) (OtherType own name.now) (Some at) ∷ [])) }
     {
         let place = self.instrs.len();
         if place >= MOST {
-            return Err(GenFault::Limit(Which::Code));
+            return Err(CodeFault::Beyond);
         }
         let number = self.types.number(name)?;
         put_position(&mut self.positions, place as u32, Some(at))?;
@@ -200,12 +200,12 @@ impl Code {
         unit: &Name,
         name: &Name,
         at: Option<Pos>,
-    ) -> Result<(), GenFault>
+    ) -> Result<(), CodeFault>
         ensures { OnOk result (self.new ≡ appended self.old (line_of op (OtherProcedure unit.now name.now) none at ∷ [])) }
     {
         let place = self.instrs.len();
         if place >= MOST {
-            return Err(GenFault::Limit(Which::Code));
+            return Err(CodeFault::Beyond);
         }
         let number = self.procedures.number(unit, name)?;
         put_position(&mut self.positions, place as u32, at)?;
@@ -214,15 +214,15 @@ impl Code {
     }
 
     /// The instruction at an index becomes a jump to the next one that will be put.
-    pub fn aim(&mut self, at: usize, op: Opcode) -> Result<(), GenFault>
+    pub fn aim(&mut self, at: usize, op: Opcode) -> Result<(), CodeFault>
         ensures { OnOk result (self.new ≡ with_instr self.old at (instr op (pos (length self.old.instrs)) (pos 0))) }
     {
         let target = self.instrs.len();
         if target > MOST {
-            return Err(GenFault::Limit(Which::Code));
+            return Err(CodeFault::Beyond);
         }
         if at >= target {
-            return Err(GenFault::Limit(Which::Code));
+            return Err(CodeFault::Beyond);
         }
         self.instrs[at] = Instr {
             op,
@@ -233,11 +233,11 @@ impl Code {
     }
 
     /// One more instruction, for a string of so many words, which is laid down behind the others.
-    pub fn put_string(&mut self, text: &Text, words: u32) -> Result<(), GenFault>
+    pub fn put_string(&mut self, text: &Text, words: u32) -> Result<(), CodeFault>
         ensures { OnOk result (self.new ≡ appended self.old (line_of Opcode.Global (StringHere text.now words) none None ∷ [])) }
     {
         if self.instrs.len() >= MOST {
-            return Err(GenFault::Limit(Which::Code));
+            return Err(CodeFault::Beyond);
         }
         let place = self.next;
         let next = take_words(place, words)?;
@@ -248,7 +248,7 @@ impl Code {
     }
 
     /// A record type of another module stands among the links from then on, and has that number.
-    pub fn name_type(&mut self, name: &QName) -> Result<u32, GenFault>
+    pub fn name_type(&mut self, name: &QName) -> Result<u32, CodeFault>
         ensures number { IfOk result (λ n. n ≡ number_among same_type self.old.named.types name.now) }
         ensures types { OnOk result (self.new ≡ with_type self.old name.now) }
     {
@@ -264,7 +264,7 @@ impl Code {
     }
 
     /// The parts of the code.
-    pub fn finish(self, alloc: Global) -> Result<CodeParts, GenFault>
+    pub fn finish(self, alloc: Global) -> Result<CodeParts, CodeFault>
         ensures { IfOk result (λ parts. parts ≡ parts_of self) }
     {
         let Code {

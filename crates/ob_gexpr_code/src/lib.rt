@@ -11,7 +11,7 @@ mod typed;
 mod wants;
 
 pub use code::{Code, CodeParts};
-pub use fault::GenFault;
+pub use fault::CodeFault;
 pub use lines::{
     bytes_of, put_bare, put_bare_at, put_count, put_jump, put_jump_back, put_placed, put_plain,
 };

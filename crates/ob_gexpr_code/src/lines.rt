@@ -6,9 +6,9 @@ ghost use Rattle.ob_scheme.specs.Coded.{Coded, appended};
 ghost use Rattle.ob_scheme.specs.Operations.{bytes_of};
 
 use crate::code::Code;
-use crate::fault::GenFault;
+use crate::fault::CodeFault;
 use ob_instr::Opcode;
-use ob_tree::{Pos, Which};
+use ob_tree::Pos;
 use ob_types::Width;
 
 /// The bytes of an integer type.
@@ -23,28 +23,28 @@ pub fn bytes_of(width: Width) -> i32
 }
 
 /// An instruction without operands, which cannot trap and spends no turn.
-pub fn put_bare(code: &mut Code, op: Opcode) -> Result<(), GenFault>
+pub fn put_bare(code: &mut Code, op: Opcode) -> Result<(), CodeFault>
     ensures { OnOk result (code.new ≡ appended code.old (bare op ∷ [])) }
 {
     code.put(op, 0, 0, None)
 }
 
 /// An instruction without operands, with its position.
-pub fn put_bare_at(code: &mut Code, op: Opcode, at: Pos) -> Result<(), GenFault>
+pub fn put_bare_at(code: &mut Code, op: Opcode, at: Pos) -> Result<(), CodeFault>
     ensures { OnOk result (code.new ≡ appended code.old (bare_at op at ∷ [])) }
 {
     code.put(op, 0, 0, Some(at))
 }
 
 /// An instruction with one operand, which cannot trap and spends no turn.
-pub fn put_plain(code: &mut Code, op: Opcode, a: i32) -> Result<(), GenFault>
+pub fn put_plain(code: &mut Code, op: Opcode, a: i32) -> Result<(), CodeFault>
     ensures { OnOk result (code.new ≡ appended code.old (plain op (Number a) ∷ [])) }
 {
     code.put(op, a, 0, None)
 }
 
 /// An instruction with a count as its operand, which cannot trap and spends no turn.
-pub fn put_count(code: &mut Code, op: Opcode, a: u32) -> Result<(), GenFault>
+pub fn put_count(code: &mut Code, op: Opcode, a: u32) -> Result<(), CodeFault>
     requires { a < 2 ^ 31 }
     ensures { OnOk result (code.new ≡ appended code.old (plain op (count a) ∷ [])) }
 {
@@ -52,28 +52,28 @@ pub fn put_count(code: &mut Code, op: Opcode, a: u32) -> Result<(), GenFault>
 }
 
 /// An instruction with one operand, with its position.
-pub fn put_placed(code: &mut Code, op: Opcode, a: i32, at: Pos) -> Result<(), GenFault>
+pub fn put_placed(code: &mut Code, op: Opcode, a: i32, at: Pos) -> Result<(), CodeFault>
     ensures { OnOk result (code.new ≡ appended code.old (placed op (Number a) at ∷ [])) }
 {
     code.put(op, a, 0, Some(at))
 }
 
 /// A jump to an index above its own.
-pub fn put_jump(code: &mut Code, op: Opcode, target: usize) -> Result<(), GenFault>
+pub fn put_jump(code: &mut Code, op: Opcode, target: usize) -> Result<(), CodeFault>
     ensures { OnOk result (code.new ≡ appended code.old (plain op (count target) ∷ [])) }
 {
     if target >= 1 << 31 {
-        return Err(GenFault::Limit(Which::Code));
+        return Err(CodeFault::Beyond);
     }
     code.put(op, target as i32, 0, None)
 }
 
 /// A jump back, with the position where it spends a turn.
-pub fn put_jump_back(code: &mut Code, op: Opcode, target: usize, at: Pos) -> Result<(), GenFault>
+pub fn put_jump_back(code: &mut Code, op: Opcode, target: usize, at: Pos) -> Result<(), CodeFault>
     ensures { OnOk result (code.new ≡ appended code.old (placed op (count target) at ∷ [])) }
 {
     if target >= 1 << 31 {
-        return Err(GenFault::Limit(Which::Code));
+        return Err(CodeFault::Beyond);
     }
     code.put(op, target as i32, 0, Some(at))
 }

@@ -3,9 +3,9 @@
 ghost use Rattle.std.specs.Prelude.{◌≡◌, ◌+◌, ◌≤◌, ◌<◌, ◌^◌, ◌∷◌, ◌++◌, [], length, OnOk, IfOk, List};
 ghost use Rattle.ob_scheme.specs.Numbers.{same_link, number_among, with_one, link_to};
 
-use crate::fault::GenFault;
+use crate::fault::CodeFault;
 use ob_obj::Link;
-use ob_tree::{List, Name, Which};
+use ob_tree::{List, Name};
 use std::alloc::Global;
 use std::marker::Model;
 
@@ -33,12 +33,12 @@ fn is_same_link(unit: &Name, name: &Name, link: &Link) -> bool
     name.as_bytes() == link.name.as_bytes() && unit.as_bytes() == link.module.as_bytes()
 }
 
-fn put_link(links: &mut List<Link>, link: Link) -> Result<(), GenFault>
+fn put_link(links: &mut List<Link>, link: Link) -> Result<(), CodeFault>
     ensures { OnOk result (links.new ≡ links.old ++ link ∷ []) }
 {
     match links.push(link) {
         Ok(()) => Ok(()),
-        Err(_) => Err(GenFault::Memory),
+        Err(_) => Err(CodeFault::Memory),
     }
 }
 
@@ -61,14 +61,14 @@ fn link_number(links: &[Link], unit: &Name, name: &Name) -> usize
 
 // The number of a link, which stands among the links from then on.
 #[tactic(auto, using(ob_scheme::proofs::Appends::new_one, ob_scheme::proofs::Appends::old_one))]
-fn number_link(links: &mut List<Link>, unit: &Name, name: &Name) -> Result<u32, GenFault>
+fn number_link(links: &mut List<Link>, unit: &Name, name: &Name) -> Result<u32, CodeFault>
     ensures number { IfOk result (λ n. n ≡ number_among same_link links.old (link_to unit.now name.now)) }
     ensures within { IfOk result (λ n. n < 2 ^ 31) }
     ensures links { OnOk result (links.new ≡ with_one same_link links.old (link_to unit.now name.now)) }
 {
     let number = link_number(links.as_slice(), unit, name);
     if number >= MOST {
-        return Err(GenFault::Limit(Which::Code));
+        return Err(CodeFault::Beyond);
     }
     if number == links.len() {
         put_link(
@@ -94,7 +94,7 @@ impl Links {
 
     /// The number of a link, which stands among the links from then on. After a fault the links
     /// are given up.
-    pub fn number(&mut self, unit: &Name, name: &Name) -> Result<u32, GenFault>
+    pub fn number(&mut self, unit: &Name, name: &Name) -> Result<u32, CodeFault>
         ensures number { IfOk result (λ n. n ≡ number_among same_link self.old (link_to unit.now name.now)) }
         ensures within { IfOk result (λ n. n < 2 ^ 31) }
         ensures links { OnOk result (self.new ≡ with_one same_link self.old (link_to unit.now name.now)) }

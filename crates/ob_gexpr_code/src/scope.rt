@@ -5,23 +5,23 @@ ghost use Rattle.std.specs.Option.{option_map, option_copied};
 ghost use Rattle.ob_scheme.specs.Context.{Context, words, is_own, variable_place, parameter_slot, local_slot, procedure_index, type_index, records, own_types};
 ghost use Rattle.ob_scheme.specs.Descriptions.{elements_of, own_name, field_place, method_number};
 
-use crate::fault::GenFault;
+use crate::fault::CodeFault;
 use ob_tree::{Name, ObjName, QName};
 use ob_types::TypeRef;
 
-/// What the code of a procedure looks up, each number as an operand. A number that is no operand
-/// exceeds a limit.
+/// What the code of a procedure looks up, each number as an operand; `Beyond` where a number is no
+/// operand.
 pub trait Scope {
     /// The descriptions, the module, and the parameters and locals of the procedure at hand.
     ghost context: { Self → Context };
 
     /// The words of a type.
-    fn words(&self, t: &TypeRef) -> Result<u32, GenFault>
+    fn words(&self, t: &TypeRef) -> Result<u32, CodeFault>
         ensures is { IfOk result (λ n. n ≡ words (context self.now) t.now) }
         ensures within { IfOk result (λ n. n < 2 ^ 31) };
 
     /// How many elements an array has; none for an open array.
-    fn elements(&self, t: &TypeRef) -> Result<Option<i32>, GenFault>
+    fn elements(&self, t: &TypeRef) -> Result<Option<i32>, CodeFault>
         ensures { IfOk result (λ n. n ≡ option_map pos (elements_of (context self.now).types t.now)) };
 
     /// Whether a module is the one at hand.
@@ -42,11 +42,11 @@ pub trait Scope {
         ensures { result ≡ pos (local_slot (context self.now) name.now) };
 
     /// The place of a field in the record type that declares it.
-    fn field_place(&self, owner: &QName, name: &Name) -> Result<i32, GenFault>
+    fn field_place(&self, owner: &QName, name: &Name) -> Result<i32, CodeFault>
         ensures { IfOk result (λ n. n ≡ pos (field_place (context self.now).types owner.now name.now)) };
 
     /// The number of a bound procedure of the record type that introduces it.
-    fn method_number(&self, owner: &QName, name: &Name) -> Result<i32, GenFault>
+    fn method_number(&self, owner: &QName, name: &Name) -> Result<i32, CodeFault>
         ensures { IfOk result (λ n. n ≡ pos (method_number (context self.now).types owner.now name.now)) };
 
     /// The index of a procedure of the module, the body's being 0.

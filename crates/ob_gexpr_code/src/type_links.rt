@@ -3,8 +3,8 @@
 ghost use Rattle.std.specs.Prelude.{◌≡◌, ◌+◌, ◌≤◌, ◌<◌, ◌^◌, ◌∷◌, ◌++◌, [], length, OnOk, IfOk, List};
 ghost use Rattle.ob_scheme.specs.Numbers.{same_type, number_among, with_one};
 
-use crate::fault::GenFault;
-use ob_tree::{List, QName, Which};
+use crate::fault::CodeFault;
+use ob_tree::{List, QName};
 use std::alloc::Global;
 use std::marker::Model;
 
@@ -49,28 +49,28 @@ fn type_number(types: &[QName], name: &QName) -> usize
     number
 }
 
-fn put_name(types: &mut List<QName>, name: &QName) -> Result<(), GenFault>
+fn put_name(types: &mut List<QName>, name: &QName) -> Result<(), CodeFault>
     ensures { OnOk result (types.new ≡ types.old ++ name.now ∷ []) }
 {
     let Ok(name) = name.clone() else {
-        return Err(GenFault::Memory);
+        return Err(CodeFault::Memory);
     };
     match types.push(name) {
         Ok(()) => Ok(()),
-        Err(_) => Err(GenFault::Memory),
+        Err(_) => Err(CodeFault::Memory),
     }
 }
 
 // The number of a type of another module, which stands among the links from then on.
 #[tactic(auto, using(ob_scheme::proofs::Appends::new_one, ob_scheme::proofs::Appends::old_one))]
-fn number_type(types: &mut List<QName>, name: &QName) -> Result<u32, GenFault>
+fn number_type(types: &mut List<QName>, name: &QName) -> Result<u32, CodeFault>
     ensures number { IfOk result (λ n. n ≡ number_among same_type types.old name.now) }
     ensures within { IfOk result (λ n. n < 2 ^ 30) }
     ensures links { OnOk result (types.new ≡ with_one same_type types.old name.now) }
 {
     let number = type_number(types.as_slice(), name);
     if number >= MOST {
-        return Err(GenFault::Limit(Which::Code));
+        return Err(CodeFault::Beyond);
     }
     if number == types.len() {
         put_name(types, name)?;
@@ -90,7 +90,7 @@ impl TypeLinks {
 
     /// The number of a type, which stands among the links from then on. After a fault the links
     /// are given up.
-    pub fn number(&mut self, name: &QName) -> Result<u32, GenFault>
+    pub fn number(&mut self, name: &QName) -> Result<u32, CodeFault>
         ensures number { IfOk result (λ n. n ≡ number_among same_type self.old name.now) }
         ensures within { IfOk result (λ n. n < 2 ^ 30) }
         ensures links { OnOk result (self.new ≡ with_one same_type self.old name.now) }

@@ -6,7 +6,7 @@ ghost use Rattle.ob_scheme.specs.Context.{Context, type_operand};
 ghost use Rattle.ob_scheme.specs.Coded.{Coded, appended};
 
 use crate::code::Code;
-use crate::fault::GenFault;
+use crate::fault::CodeFault;
 use crate::scope::Scope;
 use ob_instr::Opcode;
 use ob_tree::{Pos, QName};
@@ -19,7 +19,7 @@ pub fn put_typed_and<S: Scope>(
     name: &QName,
     b: i32,
     at: Option<Pos>,
-) -> Result<(), GenFault>
+) -> Result<(), CodeFault>
     ensures { OnOk result (code.new ≡ appended code.old (line_of op (type_operand (S.context scope.now) name.now) (Number b) at ∷ [])) }
 {
     if scope.is_own(name.module.as_bytes()) {
@@ -36,7 +36,7 @@ pub fn put_typed<S: Scope>(
     op: Opcode,
     name: &QName,
     at: Option<Pos>,
-) -> Result<(), GenFault>
+) -> Result<(), CodeFault>
     ensures { OnOk result (code.new ≡ appended code.old (line_of op (type_operand (S.context scope.now) name.now) none at ∷ [])) }
 {
     put_typed_and(code, scope, op, name, 0, at)
@@ -50,7 +50,7 @@ pub fn put_typed_behind<S: Scope>(
     a: u32,
     name: &QName,
     at: Pos,
-) -> Result<(), GenFault>
+) -> Result<(), CodeFault>
     requires { a < 2 ^ 31 }
     ensures { OnOk result (code.new ≡ appended code.old (placed_two op (count a) (type_operand (S.context scope.now) name.now) at ∷ [])) }
 {

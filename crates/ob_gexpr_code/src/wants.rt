@@ -4,13 +4,13 @@ ghost use Rattle.std.specs.Prelude.{◌≡◌, IfOk};
 ghost use Rattle.ob_scheme.specs.Context.{Context, words};
 ghost use Rattle.ob_scheme.specs.Expressions.{wanted};
 
-use crate::fault::GenFault;
+use crate::fault::CodeFault;
 use crate::scope::Scope;
 use ob_scheme::Want;
 use ob_types::{Passing, TypeRef};
 
 /// How an actual parameter is wanted.
-pub fn want_for<S: Scope>(scope: &S, how: Passing, formal: &TypeRef) -> Result<Want, GenFault>
+pub fn want_for<S: Scope>(scope: &S, how: Passing, formal: &TypeRef) -> Result<Want, CodeFault>
     ensures { IfOk result (λ w. w ≡ wanted (words (S.context scope.now)) how formal.now) }
 {
     match how {

@@ -4,3 +4,4 @@ pub mod Parts
 pub mod Named
 pub mod Filed
 pub mod Whole
+pub mod Limits

@@ -9,7 +9,7 @@ ghost use Rattle.ob_scheme.specs.Coded.{Coded};
 ghost use Rattle.ob_gproc.specs.Named.{with_types};
 
 use crate::module_scope::ModuleScope;
-use ob_gexpr_code::{Code, GenFault};
+use ob_gexpr_code::{Code, CodeFault};
 use ob_obj::Base;
 use ob_tree::QName;
 use ob_types::{Desc, TypeRef, TypedModule, TypedType, Types, target_within};
@@ -50,7 +50,7 @@ fn name_base<T: Types>(
     types: &T,
     unit: &TypedModule,
     base: &Option<TypeRef>,
-) -> Result<(), GenFault>
+) -> Result<(), CodeFault>
     ensures { OnOk result (code.new ≡ with_types code.old (with_base (T.types types.now) (module_view unit.now) code.old.named.types (base_type (T.types types.now) (module_view unit.now) base.now))) }
 {
     match base_of(types, unit, base) {
@@ -71,7 +71,7 @@ fn name_record<T: Types>(
     types: &T,
     unit: &TypedModule,
     desc: &Desc,
-) -> Result<(), GenFault>
+) -> Result<(), CodeFault>
     ensures { OnOk result (code.new ≡ with_types code.old (with_record (T.types types.now) (module_view unit.now) code.old.named.types desc.now)) }
 {
     match desc {
@@ -86,7 +86,7 @@ pub fn name_bases<T: Types>(
     types: &T,
     unit: &TypedModule,
     list: &[TypedType],
-) -> Result<(), GenFault>
+) -> Result<(), CodeFault>
     ensures { OnOk result (code.new ≡ with_types code.old (with_bases (T.types types.now) (module_view unit.now) code.old.named.types list.now)) }
 {
     'types: for named in list {
@@ -100,7 +100,7 @@ fn numbered_base<T: Types>(
     code: &Code,
     scope: &ModuleScope<'_, T>,
     name: &QName,
-) -> Result<Base, GenFault>
+) -> Result<Base, CodeFault>
     ensures { IfOk result (λ b. b ≡ base_in (T.types scope.now.types.now) (module_view scope.now.unit.now) code.now.named.types (Some name.now)) }
 {
     if is_own(scope.unit, name) {
@@ -108,7 +108,7 @@ fn numbered_base<T: Types>(
     }
     let number = code.type_number(name);
     if number >= 1 << 31 {
-        return Err(GenFault::Memory);
+        return Err(CodeFault::Beyond);
     }
     Ok(Base::Link(number as u32))
 }
@@ -118,7 +118,7 @@ pub fn base_in<T: Types>(
     code: &Code,
     scope: &ModuleScope<'_, T>,
     base: &Option<TypeRef>,
-) -> Result<Base, GenFault>
+) -> Result<Base, CodeFault>
     ensures { IfOk result (λ b. b ≡ base_in (T.types scope.now.types.now) (module_view scope.now.unit.now) code.now.named.types (base_type (T.types scope.now.types.now) (module_view scope.now.unit.now) base.now)) }
 {
     match base_of(scope.types, scope.unit, base) {

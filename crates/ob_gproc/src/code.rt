@@ -12,7 +12,7 @@ use crate::module_scope::ModuleScope;
 use crate::rows::{has_result, params_of};
 use crate::scope::ProcedureScope;
 use crate::tables::{places_of_parameters, places_of_variables};
-use ob_gexpr_code::{Code, GenFault, Scope};
+use ob_gexpr_code::{Code, CodeFault, Scope};
 use ob_gstmt::put_stmts;
 use ob_instr::{Opcode, Procedure};
 use ob_trap::Trap;
@@ -20,7 +20,7 @@ use ob_tree::{List, Pos};
 use ob_types::{TypeRef, TypedParameter, TypedProcedure, TypedStmt, TypedVariable, Types};
 use std::alloc::Global;
 
-fn put_closing(code: &mut Code, outcome: &Option<TypeRef>, pos: Pos) -> Result<(), GenFault>
+fn put_closing(code: &mut Code, outcome: &Option<TypeRef>, pos: Pos) -> Result<(), CodeFault>
     ensures { OnOk result (code.new ≡ appended code.old (closing outcome.now pos ∷ [])) }
 {
     match outcome {
@@ -43,7 +43,7 @@ fn put_parts<S: Scope>(
     body: &[TypedStmt],
     outcome: &Option<TypeRef>,
     pos: Pos,
-) -> Result<u32, GenFault>
+) -> Result<u32, CodeFault>
     ensures code { OnOk result (code.new ≡ appended code.old (stmts_code (S.context scope.now) (stmts_view body.now) (place_in code.old) hidden 0 ++ closing outcome.now pos ∷ [])) }
     ensures next { IfOk result (λ t. t ≡ next_stmts (S.context scope.now) (stmts_view body.now) hidden) }
 {
@@ -62,7 +62,7 @@ pub fn put_procedure<T: Types>(
     outcome: &Option<TypeRef>,
     pos: Pos,
     body: &[TypedStmt],
-) -> Result<Procedure, GenFault>
+) -> Result<Procedure, CodeFault>
     ensures code { OnOk result (code.new ≡ appended code.old (parts_code (context_of (T.types scope.now.types.now) scope.now.unit.now parameters.now locals.now) (stmts_view body.now) outcome.now pos (place_in code.old))) }
     ensures row { IfOk result (λ r. r ≡ parts_row (context_of (T.types scope.now.types.now) scope.now.unit.now parameters.now locals.now) (stmts_view body.now) outcome.now (place_in code.old)) }
 {
@@ -71,7 +71,7 @@ pub fn put_procedure<T: Types>(
     let params = params_of(alloc, scope.types, parameters)?;
     let entry = code.place();
     if entry >= 1 << 31 {
-        return Err(GenFault::Memory);
+        return Err(CodeFault::Beyond);
     }
     let hidden = slots.total + words.total;
     let inner = ProcedureScope {
@@ -101,7 +101,7 @@ fn put_declared<T: Types>(
     code: &mut Code,
     scope: &ModuleScope<'_, T>,
     procedure: &TypedProcedure,
-) -> Result<Procedure, GenFault>
+) -> Result<Procedure, CodeFault>
     ensures code { OnOk result (code.new ≡ appended code.old (procedure_code (T.types scope.now.types.now) (module_view scope.now.unit.now) (procedure_view procedure.now) (place_in code.old))) }
     ensures row { IfOk result (λ r. r ≡ row_of (T.types scope.now.types.now) (module_view scope.now.unit.now) (procedure_view procedure.now) (place_in code.old)) }
 {
@@ -122,7 +122,7 @@ fn put_body<T: Types>(
     alloc: Global,
     code: &mut Code,
     scope: &ModuleScope<'_, T>,
-) -> Result<Procedure, GenFault>
+) -> Result<Procedure, CodeFault>
     ensures code { OnOk result (code.new ≡ appended code.old (procedure_code (T.types scope.now.types.now) (module_view scope.now.unit.now) (body_of (module_view scope.now.unit.now)) (place_in code.old))) }
     ensures row { IfOk result (λ r. r ≡ row_of (T.types scope.now.types.now) (module_view scope.now.unit.now) (body_of (module_view scope.now.unit.now)) (place_in code.old)) }
 {
@@ -146,7 +146,7 @@ fn put_procedures<T: Types>(
     scope: &ModuleScope<'_, T>,
     rows: &mut List<Procedure>,
     procedures: &[TypedProcedure],
-) -> Result<(), GenFault>
+) -> Result<(), CodeFault>
     ensures code { OnOk result (code.new ≡ appended code.old (procedures_code (T.types scope.now.types.now) (module_view scope.now.unit.now) (map procedure_view procedures.now) (place_in code.old))) }
     ensures rows { OnOk result (rows.new ≡ rows.old ++ rows_of (T.types scope.now.types.now) (module_view scope.now.unit.now) (map procedure_view procedures.now) (place_in code.old)) }
 {
@@ -162,7 +162,7 @@ pub fn put_module<T: Types>(
     alloc: Global,
     code: &mut Code,
     scope: &ModuleScope<'_, T>,
-) -> Result<List<Procedure>, GenFault>
+) -> Result<List<Procedure>, CodeFault>
     requires { length code.old.instrs ≡ 0 }
     ensures code { OnOk result (code.new ≡ appended code.old (module_code (T.types scope.now.types.now) (module_view scope.now.unit.now))) }
     ensures rows { IfOk result (λ l. l ≡ module_rows (T.types scope.now.types.now) (module_view scope.now.unit.now)) }

@@ -5,7 +5,7 @@ ghost use Rattle.ob_types.specs.TypedView.{module_view, procedure_view};
 ghost use Rattle.ob_scheme.specs.Object.{is_seen, is_full, is_free, seen_variables, commands_among, variables, commands};
 
 use crate::module_scope::ModuleScope;
-use ob_gexpr_code::GenFault;
+use ob_gexpr_code::CodeFault;
 use ob_gproc_tables::{commands_in_order, variables_in_order};
 use ob_obj::{Command, Variable};
 use ob_tree::{List, Mark, Name, ObjName};
@@ -46,7 +46,7 @@ fn add_seen<T: Types>(
     seen: &mut List<Variable>,
     scope: &ModuleScope<'_, T>,
     variable: &TypedVariable,
-) -> Result<(), GenFault>
+) -> Result<(), CodeFault>
     ensures { OnOk result (seen.new ≡ seen.old ++ seen_variables (T.types scope.now.types.now) (module_view scope.now.unit.now) (variable.now ∷ [])) }
 {
     if !is_seen(variable.mark) {
@@ -65,7 +65,7 @@ fn seen_among<T: Types>(
     alloc: Global,
     scope: &ModuleScope<'_, T>,
     variables: &[TypedVariable],
-) -> Result<List<Variable>, GenFault>
+) -> Result<List<Variable>, CodeFault>
     ensures { IfOk result (λ l. l ≡ seen_variables (T.types scope.now.types.now) (module_view scope.now.unit.now) variables.now) }
 {
     let mut seen = List::new(alloc);
@@ -79,7 +79,7 @@ fn seen_among<T: Types>(
 pub fn exported_variables<T: Types>(
     alloc: Global,
     scope: &ModuleScope<'_, T>,
-) -> Result<List<Variable>, GenFault>
+) -> Result<List<Variable>, CodeFault>
     ensures { IfOk result (λ l. l ≡ variables (T.types scope.now.types.now) (module_view scope.now.unit.now)) }
 {
     let seen = seen_among(alloc, scope, scope.unit.variables.as_slice())?;
@@ -87,12 +87,12 @@ pub fn exported_variables<T: Types>(
 }
 
 // An exported procedure is named by an identifier.
-fn name_of(name: &ObjName) -> Result<Name, GenFault>
+fn name_of(name: &ObjName) -> Result<Name, CodeFault>
     ensures { IfOk result (λ n. n ≡ name.now) }
 {
     let bytes = name.as_bytes();
     if bytes.len() > 64 {
-        return Err(GenFault::Memory);
+        return Err(CodeFault::Beyond);
     }
     Ok(Name::new(bytes))
 }
@@ -103,7 +103,7 @@ fn add_command<T: Types>(
     _scope: &ModuleScope<'_, T>,
     procedure: &TypedProcedure,
     index: u32,
-) -> Result<(), GenFault>
+) -> Result<(), CodeFault>
     ensures { OnOk result (found.new ≡ found.old ++ commands_among (T.types _scope.now.types.now) (module_view _scope.now.unit.now) (procedure_view procedure.now ∷ []) index) }
 {
     if !is_full(procedure.mark) || !is_free(&procedure.binding) {
@@ -118,11 +118,11 @@ fn add_command<T: Types>(
 }
 
 /// The next index.
-pub fn next_index(index: u32) -> Result<u32, GenFault>
+pub fn next_index(index: u32) -> Result<u32, CodeFault>
     ensures { IfOk result (λ n. n ≡ index + 1) }
 {
     if index >= 1 << 31 {
-        return Err(GenFault::Memory);
+        return Err(CodeFault::Beyond);
     }
     Ok(index + 1)
 }
@@ -132,7 +132,7 @@ fn commands_in<T: Types>(
     alloc: Global,
     scope: &ModuleScope<'_, T>,
     procedures: &[TypedProcedure],
-) -> Result<List<Command>, GenFault>
+) -> Result<List<Command>, CodeFault>
     ensures { IfOk result (λ l. l ≡ commands_among (T.types scope.now.types.now) (module_view scope.now.unit.now) (map procedure_view procedures.now) 1) }
 {
     let mut found = List::new(alloc);
@@ -148,7 +148,7 @@ fn commands_in<T: Types>(
 pub fn exported_procedures<T: Types>(
     alloc: Global,
     scope: &ModuleScope<'_, T>,
-) -> Result<List<Command>, GenFault>
+) -> Result<List<Command>, CodeFault>
     ensures { IfOk result (λ l. l ≡ commands (T.types scope.now.types.now) (module_view scope.now.unit.now)) }
 {
     let found = commands_in(alloc, scope, scope.unit.procedures.as_slice())?;

@@ -4,6 +4,7 @@
 mod bases;
 mod code;
 mod exported;
+mod fault;
 mod file;
 mod made;
 mod module_scope;
@@ -14,4 +15,5 @@ mod scope;
 mod tables;
 mod whole;
 
+pub use fault::GenFault;
 pub use file::object_file;

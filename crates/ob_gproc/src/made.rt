@@ -13,7 +13,7 @@ use crate::code::put_module;
 use crate::exported::{exported_procedures, exported_variables};
 use crate::module_scope::ModuleScope;
 use crate::records::records_in;
-use ob_gexpr_code::{Code, CodeParts, GenFault};
+use ob_gexpr_code::{Code, CodeFault, CodeParts};
 use ob_instr::Procedure;
 use ob_obj::{Body, Command, Globals, Head, Links, ObjFile, RecordType, Variable};
 use ob_tree::List;
@@ -65,7 +65,7 @@ impl Drop for Shown {
 }
 
 impl ModuleCode {
-    fn finish(self, alloc: Global, types: List<RecordType>) -> Result<Made, GenFault>
+    fn finish(self, alloc: Global, types: List<RecordType>) -> Result<Made, CodeFault>
         ensures { IfOk result (λ x. x ≡ record { parts = parts_of self.code; rows = self.rows; types = types }) }
     {
         let ModuleCode { code, rows } = self;
@@ -75,7 +75,7 @@ impl ModuleCode {
 }
 
 // The code of a module with all its links.
-fn module_code<T: Types>(alloc: Global, scope: &ModuleScope<'_, T>) -> Result<ModuleCode, GenFault>
+fn module_code<T: Types>(alloc: Global, scope: &ModuleScope<'_, T>) -> Result<ModuleCode, CodeFault>
     ensures code { IfOk result (λ x. x.code ≡ module_coded (T.types scope.now.types.now) (module_view scope.now.unit.now)) }
     ensures rows { IfOk result (λ x. x.rows ≡ module_rows (T.types scope.now.types.now) (module_view scope.now.unit.now)) }
 {
@@ -91,7 +91,7 @@ fn module_code<T: Types>(alloc: Global, scope: &ModuleScope<'_, T>) -> Result<Mo
 }
 
 /// The parts of the code of a module, its rows and its record types.
-pub fn make_parts<T: Types>(alloc: Global, scope: &ModuleScope<'_, T>) -> Result<Made, GenFault>
+pub fn make_parts<T: Types>(alloc: Global, scope: &ModuleScope<'_, T>) -> Result<Made, CodeFault>
     ensures parts { IfOk result (λ x. x.parts ≡ parts_of (module_coded (T.types scope.now.types.now) (module_view scope.now.unit.now))) }
     ensures rows { IfOk result (λ x. x.rows ≡ module_rows (T.types scope.now.types.now) (module_view scope.now.unit.now)) }
     ensures types { IfOk result (λ x. x.types ≡ records_in (T.types scope.now.types.now) (module_view scope.now.unit.now) (type_links (T.types scope.now.types.now) (module_view scope.now.unit.now)) scope.now.unit.now.types) }
@@ -103,7 +103,7 @@ pub fn make_parts<T: Types>(alloc: Global, scope: &ModuleScope<'_, T>) -> Result
 }
 
 /// What a module exports.
-pub fn find_shown<T: Types>(alloc: Global, scope: &ModuleScope<'_, T>) -> Result<Shown, GenFault>
+pub fn find_shown<T: Types>(alloc: Global, scope: &ModuleScope<'_, T>) -> Result<Shown, CodeFault>
     ensures variables { IfOk result (λ x. x.variables ≡ variables (T.types scope.now.types.now) (module_view scope.now.unit.now)) }
     ensures commands { IfOk result (λ x. x.commands ≡ commands (T.types scope.now.types.now) (module_view scope.now.unit.now)) }
 {

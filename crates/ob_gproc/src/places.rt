@@ -4,7 +4,7 @@ ghost use Rattle.std.specs.Prelude.{◌≡◌, ◌+◌, ◌<◌, ◌^◌, ℕ, L
 ghost use Rattle.ob_layout.specs.Index.{at_name, Notes};
 ghost use Rattle.ob_gproc.specs.Placed.{place_of};
 
-use ob_gexpr_code::GenFault;
+use ob_gexpr_code::CodeFault;
 use ob_layout::NameIndex;
 use std::alloc::Global;
 
@@ -33,13 +33,13 @@ impl Places {
     }
 
     /// With one thing more, behind the others; a name that is there already keeps its place.
-    pub fn with(self, alloc: Global, name: &[u8], size: usize) -> Result<Places, GenFault>
+    pub fn with(self, alloc: Global, name: &[u8], size: usize) -> Result<Places, CodeFault>
         ensures noted { IfOk result (λ p. Notes self.index.positions p.index.positions name.now self.total) }
         ensures total { IfOk result (λ p. p.total ≡ self.total + size) }
     {
         let Places { mut index, total } = self;
         if size >= MOST || total + size >= MOST {
-            return Err(GenFault::Memory);
+            return Err(CodeFault::Beyond);
         }
         index.note(alloc, name, total)?;
         Ok(Places {

@@ -8,7 +8,7 @@ ghost use Rattle.ob_scheme.specs.Object.{bound_number, definitions_among, defini
 use crate::bases::base_in;
 use crate::exported::next_index;
 use crate::module_scope::ModuleScope;
-use ob_gexpr_code::{Code, GenFault};
+use ob_gexpr_code::{Code, CodeFault};
 use ob_gproc_tables::definitions_in_order;
 use ob_layout::method_number;
 use ob_obj::{Definition, RecordType};
@@ -36,7 +36,7 @@ fn add_definition<T: Types>(
     owner: &ObjName,
     procedure: &TypedProcedure,
     index: u32,
-) -> Result<(), GenFault>
+) -> Result<(), CodeFault>
     ensures { OnOk result (found.new ≡ found.old ++ definitions_among (T.types scope.now.types.now) (module_view scope.now.unit.now) owner.now (procedure_view procedure.now ∷ []) index) }
 {
     match &procedure.binding {
@@ -61,7 +61,7 @@ fn definitions_in<T: Types>(
     scope: &ModuleScope<'_, T>,
     owner: &ObjName,
     procedures: &[TypedProcedure],
-) -> Result<List<Definition>, GenFault>
+) -> Result<List<Definition>, CodeFault>
     ensures { IfOk result (λ l. l ≡ definitions_among (T.types scope.now.types.now) (module_view scope.now.unit.now) owner.now (map procedure_view procedures.now) 1) }
 {
     let mut found = List::new(alloc);
@@ -78,7 +78,7 @@ fn definitions_of<T: Types>(
     alloc: Global,
     scope: &ModuleScope<'_, T>,
     owner: &ObjName,
-) -> Result<List<Definition>, GenFault>
+) -> Result<List<Definition>, CodeFault>
     ensures { IfOk result (λ l. l ≡ definitions (T.types scope.now.types.now) (module_view scope.now.unit.now) owner.now) }
 {
     let found = definitions_in(alloc, scope, owner, scope.unit.procedures.as_slice())?;
@@ -93,7 +93,7 @@ fn put_record<T: Types>(
     scope: &ModuleScope<'_, T>,
     name: &ObjName,
     record: &RecordDesc,
-) -> Result<(), GenFault>
+) -> Result<(), CodeFault>
     ensures { OnOk result (records.new ≡ records.old ++ record_in (T.types scope.now.types.now) (module_view scope.now.unit.now) code.now.named.types name.now (desc.Record record.now)) }
 {
     let base = base_in(code, scope, &record.base)?;
@@ -116,7 +116,7 @@ fn add_record<T: Types>(
     code: &Code,
     scope: &ModuleScope<'_, T>,
     named: &TypedType,
-) -> Result<(), GenFault>
+) -> Result<(), CodeFault>
     ensures { OnOk result (records.new ≡ records.old ++ record_in (T.types scope.now.types.now) (module_view scope.now.unit.now) code.now.named.types named.now.name named.now.desc) }
 {
     match &named.desc {
@@ -131,7 +131,7 @@ pub fn records_in<T: Types>(
     code: &Code,
     scope: &ModuleScope<'_, T>,
     list: &[TypedType],
-) -> Result<List<RecordType>, GenFault>
+) -> Result<List<RecordType>, CodeFault>
     ensures { IfOk result (λ l. l ≡ records_in (T.types scope.now.types.now) (module_view scope.now.unit.now) code.now.named.types list.now) }
 {
     let mut records = List::new(alloc);

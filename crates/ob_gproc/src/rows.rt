@@ -6,7 +6,7 @@ ghost use Rattle.ob_scheme.specs.Descriptions.{open_words};
 ghost use Rattle.ob_scheme.specs.Procedures.{has_result};
 ghost use Rattle.ob_gproc.specs.Parts.{param_in, params_in};
 
-use ob_gexpr_code::GenFault;
+use ob_gexpr_code::CodeFault;
 use ob_instr::Param;
 use ob_layout::words_of;
 use ob_tree::List;
@@ -15,17 +15,17 @@ use std::alloc::Global;
 
 // The words of a type.
 #[tactic(auto, using(crate::proofs::Placing::limited_is))]
-fn words_in<T: Types>(types: &T, of: &TypeRef) -> Result<u32, GenFault>
+fn words_in<T: Types>(types: &T, of: &TypeRef) -> Result<u32, CodeFault>
     ensures { IfOk result (λ n. n ≡ words_in_map (T.types types.now) of.now) }
 {
     match words_of(types, of) {
         Some(words) => Ok(words),
-        None => Err(GenFault::Memory),
+        None => Err(CodeFault::Beyond),
     }
 }
 
 // The words of an element of an open array.
-fn open_words<T: Types>(types: &T, of: &TypeRef) -> Result<u32, GenFault>
+fn open_words<T: Types>(types: &T, of: &TypeRef) -> Result<u32, CodeFault>
     ensures { IfOk result (λ n. n ≡ open_words (T.types types.now) of.now) }
 {
     match shape_of(types, target_within(types, of)) {
@@ -34,7 +34,7 @@ fn open_words<T: Types>(types: &T, of: &TypeRef) -> Result<u32, GenFault>
     }
 }
 
-fn param_of<T: Types>(types: &T, passing: Passing, of: &TypeRef) -> Result<Param, GenFault>
+fn param_of<T: Types>(types: &T, passing: Passing, of: &TypeRef) -> Result<Param, CodeFault>
     ensures { IfOk result (λ p. p ≡ param_in (T.types types.now) passing of.now) }
 {
     match passing {
@@ -58,7 +58,7 @@ pub fn params_of<T: Types>(
     alloc: Global,
     types: &T,
     parameters: &[TypedParameter],
-) -> Result<List<Param>, GenFault>
+) -> Result<List<Param>, CodeFault>
     ensures { IfOk result (λ l. l ≡ params_in (T.types types.now) parameters.now) }
 {
     let mut params = List::new(alloc);

@@ -6,9 +6,9 @@ ghost use Rattle.ob_gproc.specs.Placed.{ArePlaces};
 ghost use Rattle.ob_gproc.specs.Scoped.{variables_before, variables_words, parameters_before, parameters_slots, procedures_before, types_before, types_count};
 
 use crate::places::Places;
-use ob_gexpr_code::{GenFault, Scope};
+use ob_gexpr_code::{CodeFault, Scope};
 use ob_layout::{field_place, method_number, words_of};
-use ob_tree::{Name, ObjName, QName, Which};
+use ob_tree::{Name, ObjName, QName};
 use ob_types::{
     Desc, TypeRef, TypedModule, TypedParameter, TypedVariable, Types, shape_of, target_within,
 };
@@ -39,18 +39,18 @@ pub struct ProcedureScope<'a, T: Types> {
 impl<T: Types> Scope for ProcedureScope<'_, T> {
     ghost context = { λ s. record { types = T.types s.types.now; unit = module_view s.unit.now; parameters = s.parameters.now; locals = s.locals.now } };
 
-    fn words(&self, t: &TypeRef) -> Result<u32, GenFault> {
+    fn words(&self, t: &TypeRef) -> Result<u32, CodeFault> {
         match words_of(self.types, t) {
             Some(words) => Ok(words),
-            None => Err(GenFault::Limit(Which::Words)),
+            None => Err(CodeFault::Beyond),
         }
     }
 
-    fn elements(&self, t: &TypeRef) -> Result<Option<i32>, GenFault> {
+    fn elements(&self, t: &TypeRef) -> Result<Option<i32>, CodeFault> {
         match shape_of(self.types, target_within(self.types, t)) {
             Some(Desc::Array(_, length, _)) => {
                 if *length >= 1 << 31 {
-                    return Err(GenFault::Limit(Which::Words));
+                    return Err(CodeFault::Beyond);
                 }
                 Ok(Some(*length as i32))
             }
@@ -74,18 +74,18 @@ impl<T: Types> Scope for ProcedureScope<'_, T> {
         (self.slots.total + self.words.get(name)) as i32
     }
 
-    fn field_place(&self, owner: &QName, name: &Name) -> Result<i32, GenFault> {
+    fn field_place(&self, owner: &QName, name: &Name) -> Result<i32, CodeFault> {
         let place = field_place(self.types, owner, name).unwrap_or(0);
         if place >= 1 << 31 {
-            return Err(GenFault::Limit(Which::Words));
+            return Err(CodeFault::Beyond);
         }
         Ok(place as i32)
     }
 
-    fn method_number(&self, owner: &QName, name: &Name) -> Result<i32, GenFault> {
+    fn method_number(&self, owner: &QName, name: &Name) -> Result<i32, CodeFault> {
         let number = method_number(self.types, owner, name).unwrap_or(0);
         if number >= 1 << 31 {
-            return Err(GenFault::Limit(Which::Procedures));
+            return Err(CodeFault::Beyond);
         }
         Ok(number as i32)
     }

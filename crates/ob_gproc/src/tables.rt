@@ -8,7 +8,7 @@ ghost use Rattle.ob_gproc.specs.Placed.{ArePlaces};
 ghost use Rattle.ob_gproc.specs.Scoped.{variables_before, variables_words, parameters_before, parameters_slots, procedures_before, types_before, types_count};
 
 use crate::places::Places;
-use ob_gexpr_code::GenFault;
+use ob_gexpr_code::CodeFault;
 use ob_layout::words_of;
 use ob_types::{
     Desc, Passing, TypeRef, TypedParameter, TypedProcedure, TypedType, TypedVariable, Types,
@@ -17,12 +17,12 @@ use std::alloc::Global;
 
 // The words of a type.
 #[tactic(auto, using(crate::proofs::Placing::limited_is))]
-fn words_in<T: Types>(types: &T, of: &TypeRef) -> Result<usize, GenFault>
+fn words_in<T: Types>(types: &T, of: &TypeRef) -> Result<usize, CodeFault>
     ensures { IfOk result (λ n. n ≡ words_of (T.types types.now) of.now) }
 {
     match words_of(types, of) {
         Some(words) => Ok(words as usize),
-        None => Err(GenFault::Memory),
+        None => Err(CodeFault::Beyond),
     }
 }
 
@@ -31,7 +31,7 @@ pub fn places_of_variables<T: Types>(
     alloc: Global,
     types: &T,
     variables: &[TypedVariable],
-) -> Result<Places, GenFault>
+) -> Result<Places, CodeFault>
     ensures places { IfOk result (λ p. ArePlaces p.index.positions p.total (variables_before (T.types types.now) variables.now)) }
     ensures total { IfOk result (λ p. p.total ≡ variables_words (T.types types.now) variables.now) }
 {
@@ -56,7 +56,7 @@ fn slots_of(how: Passing) -> usize
 pub fn places_of_parameters(
     alloc: Global,
     parameters: &[TypedParameter],
-) -> Result<Places, GenFault>
+) -> Result<Places, CodeFault>
     ensures places { IfOk result (λ p. ArePlaces p.index.positions p.total (parameters_before parameters.now)) }
     ensures total { IfOk result (λ p. p.total ≡ parameters_slots parameters.now) }
 {
@@ -75,7 +75,7 @@ pub fn places_of_parameters(
 pub fn places_of_procedures(
     alloc: Global,
     procedures: &[TypedProcedure],
-) -> Result<Places, GenFault>
+) -> Result<Places, CodeFault>
     ensures { IfOk result (λ p. ArePlaces p.index.positions p.total (procedures_before procedures.now)) }
 {
     let mut places = Places::new(alloc);
@@ -96,7 +96,7 @@ pub fn is_record(desc: &Desc) -> bool
 }
 
 /// Which numbers record types have, in the order of the text.
-pub fn places_of_types(alloc: Global, types: &[TypedType]) -> Result<Places, GenFault>
+pub fn places_of_types(alloc: Global, types: &[TypedType]) -> Result<Places, CodeFault>
     ensures places { IfOk result (λ p. ArePlaces p.index.positions p.total (types_before types.now)) }
     ensures total { IfOk result (λ p. p.total ≡ types_count types.now) }
 {

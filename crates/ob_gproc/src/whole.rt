@@ -11,7 +11,7 @@ ghost use Rattle.ob_gproc.specs.Filed.{file_with};
 use crate::made::{Made, Shown, find_shown, make_parts};
 use crate::module_scope::ModuleScope;
 use crate::tables::{places_of_procedures, places_of_types, places_of_variables};
-use ob_gexpr_code::GenFault;
+use ob_gexpr_code::CodeFault;
 use ob_obj::{Export, Head, ObjFile};
 use ob_tree::{List, Name};
 use ob_types::{TypedModule, Types, Use};
@@ -57,7 +57,7 @@ impl Parts {
     }
 }
 
-fn scoped_parts<T: Types>(alloc: Global, scope: &ModuleScope<'_, T>) -> Result<Parts, GenFault>
+fn scoped_parts<T: Types>(alloc: Global, scope: &ModuleScope<'_, T>) -> Result<Parts, CodeFault>
     ensures words { IfOk result (λ x. x.words ≡ own_words (T.types scope.now.types.now) (module_view scope.now.unit.now)) }
     ensures imports { IfOk result (λ x. x.imports ≡ scope.now.unit.now.imports) }
     ensures parts { IfOk result (λ x. x.made.parts ≡ parts_of (module_coded (T.types scope.now.types.now) (module_view scope.now.unit.now))) }
@@ -83,7 +83,7 @@ pub fn parts_of_file<T: Types>(
     alloc: Global,
     types: &T,
     unit: &TypedModule,
-) -> Result<Parts, GenFault>
+) -> Result<Parts, CodeFault>
     ensures words { IfOk result (λ x. x.words ≡ own_words (T.types types.now) (module_view unit.now)) }
     ensures imports { IfOk result (λ x. x.imports ≡ unit.now.imports) }
     ensures parts { IfOk result (λ x. x.made.parts ≡ parts_of (module_coded (T.types types.now) (module_view unit.now))) }

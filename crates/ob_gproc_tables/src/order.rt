@@ -7,7 +7,7 @@ ghost use Rattle.ob_gproc_tables.specs.Ordered.{of_variable, to_variable, of_com
 
 use crate::defined::Defined;
 use crate::named::Named;
-use ob_gexpr_code::GenFault;
+use ob_gexpr_code::CodeFault;
 use ob_layout::ordered_set;
 use ob_obj::{Command, Definition, Variable};
 use ob_tree::List;
@@ -42,7 +42,7 @@ fn variables_in(alloc: Global, set: BTreeSet<Named, Global>) -> Result<List<Vari
 }
 
 /// Variables in the order of their names; of those that have one name, the last.
-pub fn variables_in_order(alloc: Global, found: &[Variable]) -> Result<List<Variable>, GenFault>
+pub fn variables_in_order(alloc: Global, found: &[Variable]) -> Result<List<Variable>, CodeFault>
     ensures { IfOk result (λ l. l ≡ in_order by_variable found.now) }
 {
     let items = variables_of(alloc, found)?;
@@ -79,7 +79,7 @@ fn commands_in(alloc: Global, set: BTreeSet<Named, Global>) -> Result<List<Comma
 }
 
 /// Exported procedures in the order of their names; of those that have one name, the last.
-pub fn commands_in_order(alloc: Global, found: &[Command]) -> Result<List<Command>, GenFault>
+pub fn commands_in_order(alloc: Global, found: &[Command]) -> Result<List<Command>, CodeFault>
     ensures { IfOk result (λ l. l ≡ in_order by_command found.now) }
 {
     let items = commands_of(alloc, found)?;
@@ -122,7 +122,7 @@ fn definitions_in(
 pub fn definitions_in_order(
     alloc: Global,
     found: &[Definition],
-) -> Result<List<Definition>, GenFault>
+) -> Result<List<Definition>, CodeFault>
     ensures { IfOk result (λ l. l ≡ in_order by_number found.now) }
 {
     let items = definitions_of(alloc, found)?;

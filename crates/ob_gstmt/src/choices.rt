@@ -8,14 +8,14 @@ ghost use Rattle.ob_scheme.specs.Statements.{label_code, labels_code};
 ghost use Rattle.ob_trap.specs.Numbers.{trap_number};
 
 use crate::loops::put_word;
-use ob_gexpr_code::{Code, GenFault, Scope, put_bare, put_jump, put_placed, put_plain};
+use ob_gexpr_code::{Code, CodeFault, Scope, put_bare, put_jump, put_placed, put_plain};
 use ob_instr::Opcode;
 use ob_trap::Trap;
-use ob_tree::{Pos, Which};
+use ob_tree::Pos;
 use ob_types::Label;
 
 #[tactic(auto, using(ob_scheme::proofs::Appends::put_more))]
-fn put_compared(code: &mut Code, bound: &i32, op: Opcode, next: usize) -> Result<(), GenFault>
+fn put_compared(code: &mut Code, bound: &i32, op: Opcode, next: usize) -> Result<(), CodeFault>
     ensures { OnOk result (code.new ≡ appended code.old (plain Opcode.Int (Number bound.now) ∷ bare op ∷ jump_if_false next ∷ [])) }
 {
     put_plain(code, Opcode::Int, *bound)?;
@@ -31,7 +31,7 @@ fn put_bound(
     bound: &i32,
     op: Opcode,
     next: usize,
-) -> Result<(), GenFault>
+) -> Result<(), CodeFault>
     requires { word < 2 ^ 30 }
     ensures { OnOk result (code.new ≡ appended code.old (plain Opcode.Local (count word) ∷ bare Opcode.Load ∷ plain Opcode.Int (Number bound.now) ∷ bare op ∷ jump_if_false next ∷ [])) }
 {
@@ -40,11 +40,11 @@ fn put_bound(
 }
 
 // The index so many lines further.
-fn further(pc: usize, lines: usize) -> Result<usize, GenFault>
+fn further(pc: usize, lines: usize) -> Result<usize, CodeFault>
     ensures { IfOk result (λ n. n ≡ pc + lines) }
 {
     if pc >= 1 << 30 || lines >= 1 << 30 {
-        return Err(GenFault::Limit(Which::Code));
+        return Err(CodeFault::Beyond);
     }
     Ok(pc + lines)
 }
@@ -56,7 +56,7 @@ fn put_label<S: Scope>(
     word: u32,
     label: &Label,
     body: usize,
-) -> Result<(), GenFault>
+) -> Result<(), CodeFault>
     requires { word < 2 ^ 30 }
     ensures { OnOk result (code.new ≡ appended code.old (label_code (S.context scope.now) word label.now (place_in code.old) body)) }
 {
@@ -74,7 +74,7 @@ pub fn put_labels<S: Scope>(
     word: u32,
     labels: &[Label],
     body: usize,
-) -> Result<(), GenFault>
+) -> Result<(), CodeFault>
     requires { word < 2 ^ 30 }
     ensures { OnOk result (code.new ≡ appended code.old (labels_code (S.context scope.now) word labels.now (place_in code.old) body)) }
 {
@@ -85,18 +85,18 @@ pub fn put_labels<S: Scope>(
 }
 
 /// The index of the body of a case behind so many labels.
-pub fn body_behind(pc: usize, labels: usize) -> Result<usize, GenFault>
+pub fn body_behind(pc: usize, labels: usize) -> Result<usize, CodeFault>
     ensures { IfOk result (λ n. n ≡ pc + 11 * labels + 1) }
 {
     if labels >= 1 << 20 {
-        return Err(GenFault::Limit(Which::Code));
+        return Err(CodeFault::Beyond);
     }
     let lines = 11 * labels + 1;
     further(pc, lines)
 }
 
 /// The trap where no branch or case is taken.
-pub fn put_none_taken(code: &mut Code, kind: Trap, at: Pos) -> Result<(), GenFault>
+pub fn put_none_taken(code: &mut Code, kind: Trap, at: Pos) -> Result<(), CodeFault>
     ensures { OnOk result (code.new ≡ appended code.old (placed Opcode.Trap (count (trap_number kind)) at ∷ [])) }
 {
     put_placed(code, Opcode::Trap, i32::from(kind.number()), at)

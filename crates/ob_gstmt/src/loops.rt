@@ -12,7 +12,7 @@ ghost use Rattle.ob_scheme.specs.Statements.{word_at, for_place, for_value, with
 
 use ob_gexpr::{put_expr, put_variable};
 use ob_gexpr_code::{
-    Code, GenFault, Scope, bytes_of, put_bare, put_count, put_jump_back, put_placed, put_plain,
+    Code, CodeFault, Scope, bytes_of, put_bare, put_count, put_jump_back, put_placed, put_plain,
 };
 use ob_instr::Opcode;
 use ob_scheme::Want;
@@ -21,7 +21,7 @@ use ob_types::{Basic, TypeRef, TypedExpr, Variable, Width};
 
 /// The value of a word of FOR or CASE.
 #[tactic(auto, using(ob_scheme::proofs::Appends::put_more))]
-pub fn put_word(code: &mut Code, word: u32) -> Result<(), GenFault>
+pub fn put_word(code: &mut Code, word: u32) -> Result<(), CodeFault>
     requires { word < 2 ^ 30 }
     ensures { OnOk result (code.new ≡ appended code.old (word_at word)) }
 {
@@ -31,7 +31,11 @@ pub fn put_word(code: &mut Code, word: u32) -> Result<(), GenFault>
 
 // A value and its store.
 #[tactic(auto, using(ob_scheme::proofs::Appends::put_two))]
-fn put_value_stored<S: Scope>(code: &mut Code, scope: &S, value: &TypedExpr) -> Result<(), GenFault>
+fn put_value_stored<S: Scope>(
+    code: &mut Code,
+    scope: &S,
+    value: &TypedExpr,
+) -> Result<(), CodeFault>
     ensures { OnOk result (code.new ≡ appended code.old (expr_code (S.context scope.now) want.Value (expr_view value.now) (place_in code.old) ++ bare Opcode.Store ∷ [])) }
 {
     put_expr(code, scope, Want::Value, value)?;
@@ -45,7 +49,7 @@ pub fn put_stored<S: Scope>(
     scope: &S,
     word: u32,
     value: &TypedExpr,
-) -> Result<(), GenFault>
+) -> Result<(), CodeFault>
     requires { word < 2 ^ 30 }
     ensures { OnOk result (code.new ≡ appended code.old (plain Opcode.Local (count word) ∷ (expr_code (S.context scope.now) want.Value (expr_view value.now) (suc (place_in code.old)) ++ bare Opcode.Store ∷ []))) }
 {
@@ -53,14 +57,14 @@ pub fn put_stored<S: Scope>(
     put_value_stored(code, scope, value)
 }
 
-fn put_for_place<S: Scope>(code: &mut Code, scope: &S, variable: &Variable) -> Result<(), GenFault>
+fn put_for_place<S: Scope>(code: &mut Code, scope: &S, variable: &Variable) -> Result<(), CodeFault>
     ensures { OnOk result (code.new ≡ appended code.old (for_place (S.context scope.now) variable.now)) }
 {
     let of = TypeRef::Basic(Basic::LongInt);
     put_variable(code, scope, Want::Place, variable, &of)
 }
 
-fn put_for_value<S: Scope>(code: &mut Code, scope: &S, variable: &Variable) -> Result<(), GenFault>
+fn put_for_value<S: Scope>(code: &mut Code, scope: &S, variable: &Variable) -> Result<(), CodeFault>
     ensures { OnOk result (code.new ≡ appended code.old (for_value (S.context scope.now) variable.now)) }
 {
     let of = TypeRef::Basic(Basic::LongInt);
@@ -74,14 +78,14 @@ pub fn put_start<S: Scope>(
     scope: &S,
     variable: &Variable,
     start: &TypedExpr,
-) -> Result<(), GenFault>
+) -> Result<(), CodeFault>
     ensures { OnOk result (code.new ≡ appended code.old (for_place (S.context scope.now) variable.now ++ (expr_code (S.context scope.now) want.Value (expr_view start.now) (behind (for_place (S.context scope.now) variable.now) (place_in code.old)) ++ bare Opcode.Store ∷ []))) }
 {
     put_for_place(code, scope, variable)?;
     put_value_stored(code, scope, start)
 }
 
-fn put_within<S: Scope>(code: &mut Code, scope: &S, step: &i32) -> Result<(), GenFault>
+fn put_within<S: Scope>(code: &mut Code, scope: &S, step: &i32) -> Result<(), CodeFault>
     ensures { OnOk result (code.new ≡ appended code.old (bare (within (S.context scope.now) step.now) ∷ [])) }
 {
     let _scope = scope;
@@ -98,7 +102,7 @@ fn put_word_within<S: Scope>(
     scope: &S,
     word: u32,
     step: &i32,
-) -> Result<(), GenFault>
+) -> Result<(), CodeFault>
     requires { word < 2 ^ 30 }
     ensures { OnOk result (code.new ≡ appended code.old (plain Opcode.Local (count word) ∷ bare Opcode.Load ∷ bare (within (S.context scope.now) step.now) ∷ [])) }
 {
@@ -114,7 +118,7 @@ pub fn put_for_test<S: Scope>(
     variable: &Variable,
     word: u32,
     step: &i32,
-) -> Result<(), GenFault>
+) -> Result<(), CodeFault>
     requires { word < 2 ^ 30 }
     ensures { OnOk result (code.new ≡ appended code.old (for_value (S.context scope.now) variable.now ++ (plain Opcode.Local (count word) ∷ bare Opcode.Load ∷ bare (within (S.context scope.now) step.now) ∷ []))) }
 {
@@ -129,7 +133,7 @@ fn put_step_back(
     step: &i32,
     again: usize,
     at: Pos,
-) -> Result<(), GenFault>
+) -> Result<(), CodeFault>
     ensures { OnOk result (code.new ≡ appended code.old (plain Opcode.Int (Number step.now) ∷ placed Opcode.Inc (count (bytes_of width)) at ∷ jump_back again at ∷ [])) }
 {
     put_plain(code, Opcode::Int, *step)?;
@@ -147,7 +151,7 @@ pub fn put_for_step<S: Scope>(
     step: &i32,
     again: usize,
     at: Pos,
-) -> Result<(), GenFault>
+) -> Result<(), CodeFault>
     ensures { OnOk result (code.new ≡ appended code.old (for_place (S.context scope.now) variable.now ++ (plain Opcode.Int (Number step.now) ∷ placed Opcode.Inc (count (bytes_of width)) at ∷ jump_back again at ∷ []))) }
 {
     put_for_place(code, scope, variable)?;

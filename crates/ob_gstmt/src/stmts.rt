@@ -13,21 +13,20 @@ use crate::straight::{
     put_assert, put_assignment, put_copy, put_halt, put_new, put_new_open, put_return, put_update,
 };
 use ob_gexpr::put_expr;
-use ob_gexpr_code::{Code, GenFault, Scope, put_jump, put_jump_back};
+use ob_gexpr_code::{Code, CodeFault, Scope, put_jump, put_jump_back};
 use ob_gstmt_labels::end_stmt;
 use ob_instr::Opcode;
 use ob_scheme::Want;
 use ob_trap::Trap;
-use ob_tree::Which;
 use ob_types::{TypedBranch, TypedCase, TypedStmt};
 
 // The word of a FOR or CASE, and behind it the next one's.
-fn word_behind(hidden: u32) -> Result<u32, GenFault>
+fn word_behind(hidden: u32) -> Result<u32, CodeFault>
     ensures is { IfOk result (λ n. n ≡ suc hidden) }
     ensures within { IfOk result (λ n. hidden < 2 ^ 30) }
 {
     if hidden >= 1 << 30 {
-        return Err(GenFault::Limit(Which::Frame));
+        return Err(CodeFault::Beyond);
     }
     Ok(hidden + 1)
 }
@@ -42,7 +41,7 @@ pub fn put_stmt<S: Scope>(
     exit: usize,
     hidden: u32,
     s: &TypedStmt,
-) -> Result<u32, GenFault>
+) -> Result<u32, CodeFault>
     ensures code { OnOk result (code.new ≡ appended code.old (stmt_code (S.context scope.now) (stmt_view s.now) (place_in code.old) hidden exit)) }
     ensures hidden { IfOk result (λ t. t ≡ next_stmt (S.context scope.now) (stmt_view s.now) hidden) }
 {
@@ -207,7 +206,7 @@ pub fn put_stmts<S: Scope>(
     exit: usize,
     hidden: u32,
     body: &[TypedStmt],
-) -> Result<u32, GenFault>
+) -> Result<u32, CodeFault>
     ensures code { OnOk result (code.new ≡ appended code.old (stmts_code (S.context scope.now) (stmts_view body.now) (place_in code.old) hidden exit)) }
     ensures hidden { IfOk result (λ t. t ≡ next_stmts (S.context scope.now) (stmts_view body.now) hidden) }
 {
@@ -227,7 +226,7 @@ fn put_branch<S: Scope>(
     hidden: u32,
     end: usize,
     branch: &TypedBranch,
-) -> Result<u32, GenFault>
+) -> Result<u32, CodeFault>
     ensures code { OnOk result (code.new ≡ appended code.old (branches_code (S.context scope.now) (Branch (expr_view branch.now.test) (stmts_view branch.now.body) NoBranch) (place_in code.old) hidden exit end)) }
     ensures hidden { IfOk result (λ t. t ≡ next_stmts (S.context scope.now) (stmts_view branch.now.body) hidden) }
 {
@@ -248,7 +247,7 @@ fn put_branches<S: Scope>(
     hidden: u32,
     end: usize,
     branches: &[TypedBranch],
-) -> Result<u32, GenFault>
+) -> Result<u32, CodeFault>
     ensures code { OnOk result (code.new ≡ appended code.old (branches_code (S.context scope.now) (branches_view branches.now) (place_in code.old) hidden exit end)) }
     ensures hidden { IfOk result (λ t. t ≡ next_branches (S.context scope.now) (branches_view branches.now) hidden) }
 {
@@ -269,7 +268,7 @@ fn put_case<S: Scope>(
     hidden: u32,
     end: usize,
     labelled: &TypedCase,
-) -> Result<u32, GenFault>
+) -> Result<u32, CodeFault>
     requires { word < 2 ^ 30 }
     ensures code { OnOk result (code.new ≡ appended code.old (cases_code (S.context scope.now) word (OneCase labelled.now.labels (stmts_view labelled.now.body) NoCase) (place_in code.old) hidden exit end)) }
     ensures hidden { IfOk result (λ t. t ≡ next_stmts (S.context scope.now) (stmts_view labelled.now.body) hidden) }
@@ -293,7 +292,7 @@ fn put_cases<S: Scope>(
     hidden: u32,
     end: usize,
     cases: &[TypedCase],
-) -> Result<u32, GenFault>
+) -> Result<u32, CodeFault>
     requires { word < 2 ^ 30 }
     ensures code { OnOk result (code.new ≡ appended code.old (cases_code (S.context scope.now) word (cases_view cases.now) (place_in code.old) hidden exit end)) }
     ensures hidden { IfOk result (λ t. t ≡ next_cases (S.context scope.now) (cases_view cases.now) hidden) }

@@ -15,17 +15,17 @@ ghost use Rattle.ob_gstmt.specs.Straight.{straight_code};
 
 use ob_gexpr::{put_designator, put_expr};
 use ob_gexpr_code::{
-    Code, GenFault, Scope, bytes_of, put_bare, put_bare_at, put_count, put_placed, put_typed,
+    Code, CodeFault, Scope, bytes_of, put_bare, put_bare_at, put_count, put_placed, put_typed,
     put_typed_behind,
 };
 use ob_instr::Opcode;
 use ob_scheme::{Want, has_tag, want_for_source, want_for_target};
 use ob_trap::Trap;
-use ob_tree::{Pos, QName, Which};
+use ob_tree::{Pos, QName};
 use ob_types::{Assigned, Designator, Made, TypeRef, TypedExpr, Update, Value};
 
 // The words of a text, its 0X among them; 0 of any other value.
-fn text_words_of(value: &Value) -> Result<u32, GenFault>
+fn text_words_of(value: &Value) -> Result<u32, CodeFault>
     ensures is { IfOk result (λ n. n ≡ text_words_of value.now) }
     ensures within { IfOk result (λ n. n < 2 ^ 31) }
 {
@@ -33,7 +33,7 @@ fn text_words_of(value: &Value) -> Result<u32, GenFault>
         Value::Str(text) => {
             let length = text.len();
             if length >= 1 << 30 {
-                return Err(GenFault::Limit(Which::Globals));
+                return Err(CodeFault::Beyond);
             }
             Ok(length as u32 + 1)
         }
@@ -42,7 +42,7 @@ fn text_words_of(value: &Value) -> Result<u32, GenFault>
 }
 
 #[tactic(auto, using(ob_types::proofs::TypedViews::view_constant, ob_types::proofs::TypedViews::view_value_of, ob_types::proofs::TypedViews::view_procedure_value, ob_types::proofs::TypedViews::view_monadic, ob_types::proofs::TypedViews::view_dyadic, ob_types::proofs::TypedViews::view_logical, ob_types::proofs::TypedViews::view_compare_texts, ob_types::proofs::TypedViews::view_is_pointer, ob_types::proofs::TypedViews::view_is_record, ob_types::proofs::TypedViews::view_length, ob_types::proofs::TypedViews::view_call, ob_types::proofs::TypedViews::view_call_variable))]
-fn text_words(value: &TypedExpr) -> Result<u32, GenFault>
+fn text_words(value: &TypedExpr) -> Result<u32, CodeFault>
     ensures is { IfOk result (λ n. n ≡ text_words (expr_view value.now)) }
     ensures within { IfOk result (λ n. n < 2 ^ 31) }
 {
@@ -75,17 +75,17 @@ fn type_of(d: &Designator) -> &TypeRef
     }
 }
 
-fn type_named(name: &QName) -> Result<TypeRef, GenFault>
+fn type_named(name: &QName) -> Result<TypeRef, CodeFault>
     ensures { IfOk result (λ t. t ≡ ref.Named name.now) }
 {
     let Ok(name) = name.clone() else {
-        return Err(GenFault::Memory);
+        return Err(CodeFault::Memory);
     };
     Ok(TypeRef::Named(name))
 }
 
 // The words of a record type.
-fn record_words<S: Scope>(scope: &S, name: &QName) -> Result<u32, GenFault>
+fn record_words<S: Scope>(scope: &S, name: &QName) -> Result<u32, CodeFault>
     ensures is { IfOk result (λ n. n ≡ words (S.context scope.now) (ref.Named name.now)) }
     ensures within { IfOk result (λ n. n < 2 ^ 31) }
 {
@@ -100,7 +100,7 @@ fn put_copy_record<S: Scope>(
     tagged: bool,
     name: &QName,
     at: Pos,
-) -> Result<(), GenFault>
+) -> Result<(), CodeFault>
     ensures { OnOk result (code.new ≡ appended code.old (copy_record (S.context scope.now) tagged name.now at ∷ [])) }
 {
     let words = record_words(scope, name)?;
@@ -111,14 +111,14 @@ fn put_copy_record<S: Scope>(
     }
 }
 
-fn put_copy_array<S: Scope>(code: &mut Code, scope: &S, of: &TypeRef) -> Result<(), GenFault>
+fn put_copy_array<S: Scope>(code: &mut Code, scope: &S, of: &TypeRef) -> Result<(), CodeFault>
     ensures { OnOk result (code.new ≡ appended code.old (plain Opcode.Copy (count (words (S.context scope.now) of.now)) ∷ [])) }
 {
     let words = scope.words(of)?;
     put_count(code, Opcode::Copy, words)
 }
 
-fn put_copy_text(code: &mut Code, value: &TypedExpr) -> Result<(), GenFault>
+fn put_copy_text(code: &mut Code, value: &TypedExpr) -> Result<(), CodeFault>
     ensures { OnOk result (code.new ≡ appended code.old (plain Opcode.Copy (count (text_words (expr_view value.now))) ∷ [])) }
 {
     let words = text_words(value)?;
@@ -132,7 +132,7 @@ fn put_assign_line<S: Scope>(
     target: &Designator,
     value: &TypedExpr,
     at: Pos,
-) -> Result<(), GenFault>
+) -> Result<(), CodeFault>
     ensures { OnOk result (code.new ≡ appended code.old (assign_line (S.context scope.now) assigned.now (designator_view target.now) (expr_view value.now) at ∷ [])) }
 {
     match assigned {
@@ -152,7 +152,7 @@ pub fn put_assignment<S: Scope>(
     assigned: &Assigned,
     value: &TypedExpr,
     at: Pos,
-) -> Result<(), GenFault>
+) -> Result<(), CodeFault>
     ensures { OnOk result (code.new ≡ appended code.old (straight_code (S.context scope.now) (Assign (designator_view target.now) assigned.now (expr_view value.now) at) (place_in code.old))) }
 {
     put_designator(code, scope, want_for_target(assigned, target), target)?;
@@ -160,7 +160,7 @@ pub fn put_assignment<S: Scope>(
     put_assign_line(code, scope, assigned, target, value, at)
 }
 
-fn put_update_line(code: &mut Code, op: Update, at: Pos) -> Result<(), GenFault>
+fn put_update_line(code: &mut Code, op: Update, at: Pos) -> Result<(), CodeFault>
     ensures { OnOk result (code.new ≡ appended code.old (update_line op at ∷ [])) }
 {
     match op {
@@ -180,7 +180,7 @@ pub fn put_update<S: Scope>(
     target: &Designator,
     operand: &TypedExpr,
     at: Pos,
-) -> Result<(), GenFault>
+) -> Result<(), CodeFault>
     ensures { OnOk result (code.new ≡ appended code.old (straight_code (S.context scope.now) (Updated op (designator_view target.now) (expr_view operand.now) at) (place_in code.old))) }
 {
     put_designator(code, scope, Want::Place, target)?;
@@ -196,7 +196,7 @@ pub fn put_copy<S: Scope>(
     source: &TypedExpr,
     target: &Designator,
     at: Pos,
-) -> Result<(), GenFault>
+) -> Result<(), CodeFault>
     ensures { OnOk result (code.new ≡ appended code.old (straight_code (S.context scope.now) (Copied (expr_view source.now) (designator_view target.now) at) (place_in code.old))) }
 {
     put_expr(code, scope, Want::PlaceAndLength, source)?;
@@ -211,14 +211,14 @@ fn put_words<S: Scope>(
     op: Opcode,
     of: &TypeRef,
     at: Pos,
-) -> Result<(), GenFault>
+) -> Result<(), CodeFault>
     ensures { OnOk result (code.new ≡ appended code.old (placed op (count (words (S.context scope.now) of.now)) at ∷ [])) }
 {
     let words = scope.words(of)?;
     put_placed(code, op, words as i32, at)
 }
 
-fn put_new_line<S: Scope>(code: &mut Code, scope: &S, made: &Made, at: Pos) -> Result<(), GenFault>
+fn put_new_line<S: Scope>(code: &mut Code, scope: &S, made: &Made, at: Pos) -> Result<(), CodeFault>
     ensures { OnOk result (code.new ≡ appended code.old (new_line (S.context scope.now) made.now at ∷ [])) }
 {
     match made {
@@ -235,7 +235,7 @@ pub fn put_new<S: Scope>(
     target: &Designator,
     made: &Made,
     at: Pos,
-) -> Result<(), GenFault>
+) -> Result<(), CodeFault>
     ensures { OnOk result (code.new ≡ appended code.old (straight_code (S.context scope.now) (New (designator_view target.now) made.now at) (place_in code.old))) }
 {
     put_designator(code, scope, Want::Place, target)?;
@@ -251,7 +251,7 @@ pub fn put_new_open<S: Scope>(
     element: &TypeRef,
     length: &TypedExpr,
     at: Pos,
-) -> Result<(), GenFault>
+) -> Result<(), CodeFault>
     ensures { OnOk result (code.new ≡ appended code.old (straight_code (S.context scope.now) (NewOpenArray (designator_view target.now) element.now (expr_view length.now) at) (place_in code.old))) }
 {
     put_designator(code, scope, Want::Place, target)?;
@@ -267,7 +267,7 @@ pub fn put_assert<S: Scope>(
     condition: &TypedExpr,
     number: &i32,
     at: Pos,
-) -> Result<(), GenFault>
+) -> Result<(), CodeFault>
     ensures { OnOk result (code.new ≡ appended code.old (straight_code (S.context scope.now) (Assert (expr_view condition.now) number.now at) (place_in code.old))) }
 {
     put_expr(code, scope, Want::Value, condition)?;
@@ -275,7 +275,12 @@ pub fn put_assert<S: Scope>(
 }
 
 /// HALT
-pub fn put_halt<S: Scope>(code: &mut Code, scope: &S, number: &i32, at: Pos) -> Result<(), GenFault>
+pub fn put_halt<S: Scope>(
+    code: &mut Code,
+    scope: &S,
+    number: &i32,
+    at: Pos,
+) -> Result<(), CodeFault>
     ensures { OnOk result (code.new ≡ appended code.old (straight_code (S.context scope.now) (Halt number.now at) (place_in code.old))) }
 {
     let _scope = scope;
@@ -293,7 +298,7 @@ pub fn put_return<S: Scope>(
     code: &mut Code,
     scope: &S,
     value: &Option<TypedExpr>,
-) -> Result<(), GenFault>
+) -> Result<(), CodeFault>
     ensures { OnOk result (code.new ≡ appended code.old (straight_code (S.context scope.now) (Return (option_map expr_view value.now)) (place_in code.old))) }
 {
     match value {

@@ -9,7 +9,7 @@ use crate::sizes::{
     between, constant_size, further, guard_size, joined, place_size, pointer_size, unary_size,
     variable_size,
 };
-use ob_gexpr_code::{GenFault, Scope, want_for};
+use ob_gexpr_code::{CodeFault, Scope, want_for};
 use ob_scheme::{Want, want_for_guard, want_for_index};
 use ob_types::{Actual, Designator, TypedExpr};
 
@@ -22,7 +22,7 @@ pub fn end_designator<S: Scope>(
     want: Want,
     d: &Designator,
     pc: usize,
-) -> Result<usize, GenFault>
+) -> Result<usize, CodeFault>
     ensures { IfOk result (λ n. n ≡ end_desig (S.context scope.now) want (designator_view d.now) pc) }
 {
     let mut rest = d;
@@ -74,7 +74,7 @@ pub fn end_expr<S: Scope>(
     want: Want,
     e: &TypedExpr,
     pc: usize,
-) -> Result<usize, GenFault>
+) -> Result<usize, CodeFault>
     ensures { IfOk result (λ n. n ≡ end_expr (S.context scope.now) want (expr_view e.now) pc) }
 {
     let mut rest = e;
@@ -136,7 +136,7 @@ pub fn end_expr<S: Scope>(
 }
 
 #[cycle(end_expr)]
-fn end_actual<S: Scope>(scope: &S, actual: &Actual, pc: usize) -> Result<usize, GenFault>
+fn end_actual<S: Scope>(scope: &S, actual: &Actual, pc: usize) -> Result<usize, CodeFault>
     ensures { IfOk result (λ n. n ≡ end_expr (S.context scope.now) (wanted (words (S.context scope.now)) actual.now.passing actual.now.formal) (expr_view actual.now.value) pc) }
 {
     let want = want_for(scope, actual.passing, &actual.formal)?;
@@ -144,7 +144,7 @@ fn end_actual<S: Scope>(scope: &S, actual: &Actual, pc: usize) -> Result<usize, 
 }
 
 #[cycle(end_expr)]
-fn end_actuals<S: Scope>(scope: &S, actuals: &[Actual], pc: usize) -> Result<usize, GenFault>
+fn end_actuals<S: Scope>(scope: &S, actuals: &[Actual], pc: usize) -> Result<usize, CodeFault>
     ensures { IfOk result (λ n. n ≡ end_actuals (S.context scope.now) (actuals_view actuals.now) pc) }
 {
     let mut end = pc;

@@ -5,30 +5,29 @@ ghost use Rattle.ob_scheme.specs.Context.{Context};
 ghost use Rattle.ob_scheme.specs.Descriptions.{elements_of};
 ghost use Rattle.ob_gstmt_labels.specs.Sizes.{place_size, measure_size, pointer_size, dropped_size, guard_size, pair_size, parameter_size, variable_size, text_size, constant_size, unary_size, between, joined};
 
-use ob_gexpr_code::{GenFault, Scope};
+use ob_gexpr_code::{CodeFault, Scope};
 use ob_scheme::Want;
-use ob_tree::Which;
 use ob_types::{Connective, Guarded, Passing, TypeRef, Unary, Value, Variable};
 
 /// The most instructions that are counted. The limit of a module's code is lower, and is asked before.
 const MOST: usize = 16_777_216;
 
 /// The index so many lines further.
-pub fn further(pc: usize, lines: usize) -> Result<usize, GenFault>
+pub fn further(pc: usize, lines: usize) -> Result<usize, CodeFault>
     ensures { IfOk result (λ n. n ≡ pc + lines) }
 {
     if pc > MOST || lines > MOST {
-        return Err(GenFault::Limit(Which::Code));
+        return Err(CodeFault::Beyond);
     }
     Ok(pc + lines)
 }
 
 /// The index behind so many labels.
-pub fn behind_labels(pc: usize, labels: usize) -> Result<usize, GenFault>
+pub fn behind_labels(pc: usize, labels: usize) -> Result<usize, CodeFault>
     ensures { IfOk result (λ n. n ≡ pc + 11 * labels) }
 {
     if labels > MOST {
-        return Err(GenFault::Limit(Which::Code));
+        return Err(CodeFault::Beyond);
     }
     let lines = 11 * labels;
     further(pc, lines)
@@ -46,7 +45,7 @@ pub fn place_size(want: Want) -> usize
 }
 
 // How many lines are behind the value of a pointer to an array whose length is wanted.
-fn measure_size<S: Scope>(scope: &S, of: &TypeRef) -> Result<usize, GenFault>
+fn measure_size<S: Scope>(scope: &S, of: &TypeRef) -> Result<usize, CodeFault>
     ensures is { IfOk result (λ n. n ≡ measure_size (elements_of (S.context scope.now).types of.now)) }
     ensures small { IfOk result (λ n. n < 5) }
 {
@@ -57,7 +56,7 @@ fn measure_size<S: Scope>(scope: &S, of: &TypeRef) -> Result<usize, GenFault>
 }
 
 /// How many lines are behind the value of a pointer to a variable of a type.
-pub fn pointer_size<S: Scope>(scope: &S, want: Want, of: &TypeRef) -> Result<usize, GenFault>
+pub fn pointer_size<S: Scope>(scope: &S, want: Want, of: &TypeRef) -> Result<usize, CodeFault>
     ensures is { IfOk result (λ n. n ≡ pointer_size want (elements_of (S.context scope.now).types of.now)) }
     ensures small { IfOk result (λ n. n < 5) }
 {

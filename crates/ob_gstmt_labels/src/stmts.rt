@@ -11,18 +11,18 @@ ghost use Rattle.ob_gstmt_labels.specs.Sizes.{end_for_head};
 
 use crate::exprs::{end_designator, end_expr};
 use crate::sizes::{behind_labels, further, variable_size};
-use ob_gexpr_code::{GenFault, Scope};
+use ob_gexpr_code::{CodeFault, Scope};
 use ob_scheme::{Want, want_for_source, want_for_target};
 use ob_types::{Label, TypedBranch, TypedCase, TypedExpr, TypedStmt, Variable};
 
-fn end_labels<S: Scope>(scope: &S, labels: &[Label], pc: usize) -> Result<usize, GenFault>
+fn end_labels<S: Scope>(scope: &S, labels: &[Label], pc: usize) -> Result<usize, CodeFault>
     ensures { IfOk result (λ n. n ≡ end_labels (S.context scope.now) labels.now pc) }
 {
     let _scope = scope;
     behind_labels(pc, labels.len())
 }
 
-fn end_result<S: Scope>(scope: &S, value: &Option<TypedExpr>, pc: usize) -> Result<usize, GenFault>
+fn end_result<S: Scope>(scope: &S, value: &Option<TypedExpr>, pc: usize) -> Result<usize, CodeFault>
     ensures { IfOk result (λ n. n ≡ end_result (S.context scope.now) (option_map expr_view value.now) pc) }
 {
     match value {
@@ -36,7 +36,7 @@ fn end_result<S: Scope>(scope: &S, value: &Option<TypedExpr>, pc: usize) -> Resu
 
 // Behind the test of FOR.
 #[tactic(auto, using(crate::proofs::Behinds::variable_behind))]
-fn end_for_test<S: Scope>(scope: &S, variable: &Variable, pc: usize) -> Result<usize, GenFault>
+fn end_for_test<S: Scope>(scope: &S, variable: &Variable, pc: usize) -> Result<usize, CodeFault>
     ensures { IfOk result (λ n. n ≡ end_for_test (S.context scope.now) variable.now pc) }
 {
     let _scope = scope;
@@ -45,7 +45,7 @@ fn end_for_test<S: Scope>(scope: &S, variable: &Variable, pc: usize) -> Result<u
 
 // Behind the addition of FOR.
 #[tactic(auto, using(crate::proofs::Behinds::variable_behind))]
-fn end_for_step<S: Scope>(scope: &S, variable: &Variable, pc: usize) -> Result<usize, GenFault>
+fn end_for_step<S: Scope>(scope: &S, variable: &Variable, pc: usize) -> Result<usize, CodeFault>
     ensures { IfOk result (λ n. n ≡ end_for_step (S.context scope.now) variable.now pc) }
 {
     let _scope = scope;
@@ -53,7 +53,7 @@ fn end_for_step<S: Scope>(scope: &S, variable: &Variable, pc: usize) -> Result<u
 }
 
 // Behind the value of CASE and its store.
-fn end_choice<S: Scope>(scope: &S, value: &TypedExpr, pc: usize) -> Result<usize, GenFault>
+fn end_choice<S: Scope>(scope: &S, value: &TypedExpr, pc: usize) -> Result<usize, CodeFault>
     ensures { IfOk result (λ n. n ≡ suc (end_expr (S.context scope.now) want.Value (expr_view value.now) (suc pc))) }
 {
     let start = further(pc, 1)?;
@@ -69,7 +69,7 @@ fn end_for_head<S: Scope>(
     start: &TypedExpr,
     limit: &TypedExpr,
     pc: usize,
-) -> Result<usize, GenFault>
+) -> Result<usize, CodeFault>
     ensures { IfOk result (λ n. n ≡ end_for_head (S.context scope.now) variable.now (expr_view start.now) (expr_view limit.now) pc) }
 {
     let first = further(pc, 1)?;
@@ -84,7 +84,7 @@ fn end_for_head<S: Scope>(
 /// `end_designator`.
 #[cycle(end_stmt)]
 #[tactic(auto, using(ob_scheme::proofs::Views::view_case, ob_scheme::proofs::Views::view_with, ob_types::proofs::TypedViews::view_assign, ob_types::proofs::TypedViews::view_call_proper, ob_types::proofs::TypedViews::view_updated, ob_types::proofs::TypedViews::view_copy, ob_types::proofs::TypedViews::view_new, ob_types::proofs::TypedViews::view_new_open_array, ob_types::proofs::TypedViews::view_assert, ob_types::proofs::TypedViews::view_halt, ob_types::proofs::TypedViews::view_if, ob_types::proofs::TypedViews::view_while, ob_types::proofs::TypedViews::view_repeat, ob_types::proofs::TypedViews::view_for, ob_types::proofs::TypedViews::view_loop, ob_types::proofs::TypedViews::view_exit, ob_types::proofs::TypedViews::view_return))]
-pub fn end_stmt<S: Scope>(scope: &S, s: &TypedStmt, pc: usize) -> Result<usize, GenFault>
+pub fn end_stmt<S: Scope>(scope: &S, s: &TypedStmt, pc: usize) -> Result<usize, CodeFault>
     ensures { IfOk result (λ n. n ≡ end_stmt (S.context scope.now) (stmt_view s.now) pc) }
 {
     match s {
@@ -193,7 +193,7 @@ pub fn end_stmt<S: Scope>(scope: &S, s: &TypedStmt, pc: usize) -> Result<usize, 
 /// The index behind the code of statements that begins at an index, with the faults of
 /// `end_designator`.
 #[cycle(end_stmt)]
-pub fn end_stmts<S: Scope>(scope: &S, body: &[TypedStmt], pc: usize) -> Result<usize, GenFault>
+pub fn end_stmts<S: Scope>(scope: &S, body: &[TypedStmt], pc: usize) -> Result<usize, CodeFault>
     ensures { IfOk result (λ n. n ≡ end_stmts (S.context scope.now) (stmts_view body.now) pc) }
 {
     let mut end = pc;
@@ -204,7 +204,7 @@ pub fn end_stmts<S: Scope>(scope: &S, body: &[TypedStmt], pc: usize) -> Result<u
 }
 
 #[cycle(end_stmt)]
-fn end_branch<S: Scope>(scope: &S, branch: &TypedBranch, pc: usize) -> Result<usize, GenFault>
+fn end_branch<S: Scope>(scope: &S, branch: &TypedBranch, pc: usize) -> Result<usize, CodeFault>
     ensures { IfOk result (λ n. n ≡ suc (end_stmts (S.context scope.now) (stmts_view branch.now.body) (suc (end_expr (S.context scope.now) want.Value (expr_view branch.now.test) pc)))) }
 {
     let tested = end_expr(scope, Want::Value, &branch.test, pc)?;
@@ -214,7 +214,11 @@ fn end_branch<S: Scope>(scope: &S, branch: &TypedBranch, pc: usize) -> Result<us
 }
 
 #[cycle(end_stmt)]
-fn end_branches<S: Scope>(scope: &S, branches: &[TypedBranch], pc: usize) -> Result<usize, GenFault>
+fn end_branches<S: Scope>(
+    scope: &S,
+    branches: &[TypedBranch],
+    pc: usize,
+) -> Result<usize, CodeFault>
     ensures { IfOk result (λ n. n ≡ end_branches (S.context scope.now) (branches_view branches.now) pc) }
 {
     let mut end = pc;
@@ -225,7 +229,7 @@ fn end_branches<S: Scope>(scope: &S, branches: &[TypedBranch], pc: usize) -> Res
 }
 
 #[cycle(end_stmt)]
-fn end_case<S: Scope>(scope: &S, labelled: &TypedCase, pc: usize) -> Result<usize, GenFault>
+fn end_case<S: Scope>(scope: &S, labelled: &TypedCase, pc: usize) -> Result<usize, CodeFault>
     ensures { IfOk result (λ n. n ≡ suc (end_stmts (S.context scope.now) (stmts_view labelled.now.body) (suc (end_labels (S.context scope.now) labelled.now.labels pc)))) }
 {
     let tested = end_labels(scope, labelled.labels.as_slice(), pc)?;
@@ -235,7 +239,7 @@ fn end_case<S: Scope>(scope: &S, labelled: &TypedCase, pc: usize) -> Result<usiz
 }
 
 #[cycle(end_stmt)]
-fn end_cases<S: Scope>(scope: &S, cases: &[TypedCase], pc: usize) -> Result<usize, GenFault>
+fn end_cases<S: Scope>(scope: &S, cases: &[TypedCase], pc: usize) -> Result<usize, CodeFault>
     ensures { IfOk result (λ n. n ≡ end_cases (S.context scope.now) (cases_view cases.now) pc) }
 {
     let mut end = pc;

@@ -12,6 +12,7 @@ use Rattle.ob_types.specs.declared.desc.Desc.{Desc}
 use Rattle.ob_types.specs.declared.face.Aspect.{Aspect}
 use Rattle.ob_types.specs.declared.face.Aspect.TheVariants.{Shape, Layout}
 use Rattle.ob_types.specs.TypedSyntax.{Module}
+use Rattle.ob_types.specs.Maps.{IsFinite}
 use Rattle.ob_types.specs.Relations.{is_record}
 use Rattle.ob_types.specs.AssigningTests.{described as is_described}
 use Rattle.ob_desc.specs.Grammar.{same_object}
@@ -28,7 +29,7 @@ use Rattle.ob_uses.specs.Reaching.{Reaches, AreEnough}
 use Rattle.ob_uses.specs.Uses.{is_imported, as_shape, as_layout, pairs_of}
 use Rattle.ob_uses.specs.Ways.{paired, has_pair, AreReached, AreAllNames, leads_by, desc_leads}
 use Rattle.ob_uses.proofs.SamePairs.{pair_same}
-use Rattle.ob_uses.proofs.Sorting.{Has, same_order}
+use Rattle.ob_uses.proofs.Sorting.{Has, has, same_order}
 use Rattle.ob_uses.proofs.Searching.{itself, known, no_both, either, left_of, right_of, exact_here}
 use Rattle.ob_uses.proofs.Going.{at_same, at_itself}
 use mathlib.Core.Logic.{inl, inr}
@@ -150,6 +151,13 @@ pub all_enough : (w : Way) (map : QName → Option Desc) (m : List ℕ) (starts 
 all_enough w map m starts names all = λ q r. elim (all q) as (λ _. (leads_by w map m q ≡ []) ⊎ (is_among names q ≡ true)) [
   | inl none ↦ inl (ap (of_found (desc_leads w m q)) none)
   | inr there ↦ inr there
+]
+
+-- the names that a finite map lists are all that it holds
+pub finite_names : (map : QName → Option Desc) (f : IsFinite map) → AreAllNames map f.0
+finite_names map f = λ q. elim (f.1 q) as (λ _. (map q ≡ None) ⊎ (is_among f.0 q ≡ true)) [
+  | inl none ↦ inl none
+  | inr there ↦ inr (among_of_has f.0 q (has f.0 q there))
 ]
 
 pub pairs_are : (map : QName → Option Desc) (m : Module) (names : List QName) → AreAllNames map names → (shapes layouts : List QName) (ps qs : List Pair)

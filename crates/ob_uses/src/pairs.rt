@@ -102,7 +102,8 @@ pub fn pairs_of<T: Types>(
     types: &T,
     module: &TypedModule,
 ) -> Result<Vec<Pair>, AllocError>
-    ensures { (names : List Named) → AreAllNames (T.types types.now) names
+    ensures value { IfOk result (λ v. v.items ≡ pairs_in (T.types types.now) (length (T.finite types.now).0) (module_view «module».now)) }
+    ensures steps { (names : List Named) → AreAllNames (T.types types.now) names
         → IfOk result (λ v. v.items ≡ pairs_in (T.types types.now) (length names) (module_view «module».now)) }
 {
     let noted = count_module(alloc, types, module)?;

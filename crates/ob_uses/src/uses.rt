@@ -51,16 +51,17 @@ fn with_prints<P: Prints>(
 /// The uses of a module that is laid out: each object of another module, by aspect, that its text
 /// relies on, with the print that it has; ascending by module, object and aspect, each once.
 ///
-/// `types` is the map of the module's own types and of those around it. An error is want of memory
-/// alone.
+/// `types` is the map of the module's own types and of those around it. The definition goes one step
+/// for each name that the map holds; a list with more names than those gives the same. An error is
+/// want of memory alone.
 pub fn uses_of<T: Types, P: Prints>(
     alloc: Global,
     types: &T,
     prints: &P,
     module: &TypedModule,
 ) -> Result<List<Use>, AllocError>
-    // Of whatever names there are, as many steps as there are names are enough.
-    ensures { (names : List Named) → AreAllNames (T.types types.now) names
+    ensures value { IfOk result (λ l. each wanted_of l ≡ uses_in (T.types types.now) (length (T.finite types.now).0) (module_view «module».now) (P.prints prints.now)) }
+    ensures steps { (names : List Named) → AreAllNames (T.types types.now) names
         → IfOk result (λ l. each wanted_of l ≡ uses_in (T.types types.now) (length names) (module_view «module».now) (P.prints prints.now)) }
 {
     let pairs = pairs_of(alloc, types, module)?;

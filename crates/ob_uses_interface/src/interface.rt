@@ -29,7 +29,8 @@ pub fn interface_of<T: Types, P: Prints>(
     module: &TypedModule,
 ) -> Result<Interface, AllocError>
     requires { HasOwnTypes (T.types types.now) (module_view «module».now) }
-    ensures { (names : List Named) → AreAllNames (T.types types.now) names
+    ensures value { IfOk result (λ i. i ≡ with_prints (face_over (T.types types.now) (length (T.finite types.now).0) (P.prints prints.now) (module_view «module».now))) }
+    ensures steps { (names : List Named) → AreAllNames (T.types types.now) names
         → IfOk result (λ i. i ≡ with_prints (face_over (T.types types.now) (length names) (P.prints prints.now) (module_view «module».now))) }
 {
     let imports = copied(alloc, module.imports.as_slice())?;

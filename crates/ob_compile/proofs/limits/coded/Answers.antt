@@ -1,5 +1,5 @@
 use Rattle.std.proofs.Common.{Err, ap, ◌∙◌}
-use Rattle.ob_gexpr_code.specs.declared.fault.GenFault.TheVariants as fault
+use Rattle.ob_gproc.specs.declared.fault.GenFault.TheVariants as fault
 use Rattle.ob_compile.specs.Steps.{compiled_of}
 use Rattle.ob_compile.proofs.Facing.{as_shown, have_prints}
 use Rattle.ob_compile.proofs.Limited.{object_is, long_code, brief_code}

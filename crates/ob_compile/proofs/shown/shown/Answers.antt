@@ -18,4 +18,4 @@ returns c =
     let is = c.args.view.now.env.now in
     let m = c.args.view.now.«module».now in
     let held = c.view_is_held.ensures (faces_of is) (module_view m) in
-    shown_is is c.env.result.now m c.module.result.now _ c.in_ok-face.face c.env.ensures c.module.ensures held.1 (c.in_ok-face.ensures (held_names (faces_of is) (module_view m)) held.0)
+    shown_is is c.env.result.now m c.module.result.now _ c.in_ok-face.face c.env.ensures c.module.ensures held.1 (c.in_ok-face.ensures.steps (held_names (faces_of is) (module_view m)) held.0)
