@@ -81,6 +81,7 @@ fn coming_of(heading: &Heading) -> Option<Coming>
         None => None,
         Some(r) => Some(Coming {
             owner: r.owner.name,
+            is_var: r.is_var,
             name: heading.name.ident.name,
         }),
     }

@@ -6,8 +6,8 @@ ghost use Rattle.std.specs.Prelude.{◌≡◌, ◌++◌, IfOk, OnOk, false};
 ghost use Rattle.std.specs.Option.{option_map};
 ghost use Rattle.ob_cdecl_scopes.specs.Scopes.{around_of};
 ghost use Rattle.ob_rules.specs.declared.entity.Entity.TheVariants as entity;
-ghost use Rattle.ob_rules.specs.Books.{book_after};
-ghost use Rattle.ob_rules.specs.Judged.{made, paired};
+ghost use Rattle.ob_rules.specs.Books.{book_after, empty_book};
+ghost use Rattle.ob_rules.specs.Judged.{Notes, made, paired};
 ghost use Rattle.ob_rules.specs.Types.{written, with_types};
 ghost use Rattle.ob_rules.specs.Headings.{mark_or_hidden};
 ghost use Rattle.ob_rules.specs.Declarations as spec;
@@ -15,6 +15,7 @@ ghost use Rattle.ob_cdecl_field.specs.Makes.{typing_of};
 ghost use Rattle.ob_cdecl.specs.Seen.{contents_of, holds_types};
 ghost use Rattle.ob_cdecl.specs.Order.{type_around};
 
+use crate::books::{append_notes, take_later};
 use crate::contents::Contents;
 use crate::decls::declare_new;
 use ob_cdecl_field::{Typed, add_types, name_of, typed_as};
@@ -146,6 +147,43 @@ fn declare_type<E: Imports>(
     }
 }
 
+// The mark of a type whose name is new in the scope.
+fn new_mark<E: Imports>(scope: &Scope<'_, E>, book: &mut Notebook, d: &IdentDef) -> Option<Mark>
+    ensures made { result ≡ (spec.newly (around_of E.types scope.now) d.now).node }
+    ensures noted { book.new ≡ book_after book.old (spec.newly (around_of E.types scope.now) d.now).notes }
+{
+    let mark = check_mark(scope, book, false, d);
+    if scope.is_known_in_scope(&d.ident.name) {
+        None
+    } else {
+        mark
+    }
+}
+
+// A type whose name is not new leaves nothing for later.
+fn forget_later<E: Imports>(alloc: Global, scope: &Scope<'_, E>, notes: &mut Notebook, x: &Ident)
+    ensures { (n : Notes) → notes.old ≡ book_after empty_book n → notes.new ≡ book_after empty_book (spec.of_new (around_of E.types scope.now) x.now n) }
+{
+    if scope.is_known_in_scope(&x.name) {
+        let _ = take_later(alloc, notes);
+    }
+}
+
+// What is said of a type is noted.
+fn keep_notes<E: Imports>(
+    alloc: Global,
+    scope: &Scope<'_, E>,
+    book: &mut Notebook,
+    x: &Ident,
+    notes: Notebook,
+) -> Result<(), AllocError>
+    ensures { (n : Notes) → notes ≡ book_after empty_book n → OnOk result (book.new ≡ book_after book.old (spec.of_new (around_of E.types scope.now) x.now n)) }
+{
+    let mut notes = notes;
+    forget_later(alloc, scope, &mut notes, x);
+    append_notes(book, notes)
+}
+
 fn type_judged<E: Imports, C: CheckExpr>(
     alloc: Global,
     checker: &C,
@@ -159,17 +197,19 @@ fn type_judged<E: Imports, C: CheckExpr>(
     ensures noted { OnOk result (book.new ≡ book_after book.old (spec.type_declared d.now (written node.now) (around_of E.types scope.old)).part.notes) }
     ensures added { OnOk result (contents_of contents.new ≡ spec.together (contents_of contents.old) (spec.type_declared d.now (written node.now) (around_of E.types scope.old)).part.contents) }
 {
-    let mark = check_mark(&*scope, book, false, d);
+    let mut notes = Notebook::new(alloc);
+    let mark = new_mark(&*scope, &mut notes, d);
     let name = object_name(alloc, &*scope, &d.ident.name)?;
     let t = typing_as(
         alloc,
         checker,
         scope,
-        book,
+        &mut notes,
         name.as_bytes(),
         mark_or_hidden(mark),
         node,
     )?;
+    keep_notes(alloc, &*scope, book, &d.ident, notes)?;
     declare_type(alloc, scope, book, contents, &d.ident, mark, t)
 }
 

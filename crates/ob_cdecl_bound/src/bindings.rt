@@ -156,19 +156,12 @@ fn redefined<E: Imports>(
     }
 }
 
-fn is_alike<T: Types>(types: &T, bound: &BoundAs, parameters: &Parameters, method: &Method) -> bool
-    ensures { result ≡ spec.same_kind method.now.receiver bound.now.receiver && match_at (T.types types.now) (Some method.now.signature) (Some parameters.now.signature) }
-{
-    is_same_kind(method.receiver, bound.receiver)
-        && signatures_match(types, &method.signature, &parameters.signature)
-}
-
-fn differs<T: Types>(types: &T, head: &Head, bound: &BoundAs, method: &Method) -> bool
-    ensures { result ≡ is_some (option_map parameters_of head.now.parameters) && not (spec.same_kind method.now.receiver bound.now.receiver && match_at (T.types types.now) (Some method.now.signature) (spec.signature_if (option_map parameters_of head.now.parameters))) }
+fn differs<T: Types>(types: &T, head: &Head, method: &Method) -> bool
+    ensures { result ≡ is_some (option_map parameters_of head.now.parameters) && not (match_at (T.types types.now) (Some method.now.signature) (spec.signature_if (option_map parameters_of head.now.parameters))) }
 {
     match &head.parameters {
         None => false,
-        Some(parameters) => !is_alike(types, bound, parameters, method),
+        Some(parameters) => !signatures_match(types, &method.signature, &parameters.signature),
     }
 }
 
@@ -195,9 +188,10 @@ fn is_broken<E: Imports>(
     owner: &QName,
     method: &Method,
 ) -> bool
-    ensures { result ≡ spec.introduced_sound (around_of E.types scope.now) (around_of E.types scope.now).bound owner.now method.now.name && (is_some (option_map parameters_of head.now.parameters) && not (spec.same_kind method.now.receiver bound.now.receiver && match_at (map_of (around_of E.types scope.now)) (Some method.now.signature) (spec.signature_if (option_map parameters_of head.now.parameters)))) }
+    ensures { result ≡ not (spec.same_kind method.now.receiver bound.now.receiver) || spec.differ (map_of (around_of E.types scope.now)) (seen head.now) method.now (spec.introduced_sound (around_of E.types scope.now) (around_of E.types scope.now).bound owner.now method.now.name) }
 {
-    introduced_sound(scope, owner, &method.name) && differs(scope, head, bound, method)
+    !is_same_kind(method.receiver, bound.receiver)
+        || (introduced_sound(scope, owner, &method.name) && differs(scope, head, method))
 }
 
 fn is_own_method<E: Imports>(scope: &Scope<'_, E>, bound: &BoundAs, owner: &QName) -> bool

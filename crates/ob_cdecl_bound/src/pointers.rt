@@ -96,11 +96,12 @@ fn is_wrong<T: Types>(types: &T, left: &Later) -> bool
             pointer: _,
             at: _,
             base,
-            inline: _,
+            inline,
         } => {
-            is_held(types, base)
-                && is_held(types, target_within(types, base))
-                && !(is_array(types, base) || is_record(types, base))
+            *inline
+                || (is_held(types, base)
+                    && is_held(types, target_within(types, base))
+                    && !(is_array(types, base) || is_record(types, base)))
         }
         Later::Inherits { field: _, base: _ } => false,
     }

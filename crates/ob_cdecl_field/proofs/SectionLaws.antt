@@ -13,14 +13,14 @@ use Rattle.ob_rules.specs.declared.broken.Broken.{Broken}
 use Rattle.ob_rules.specs.declared.broken.Rule.{Rule}
 use Rattle.ob_rules.specs.declared.entity.Known.{Known}
 use Rattle.ob_rules.specs.declared.notes.Notebook.{Notebook}
-use Rattle.ob_rules.specs.Judged.{Judged, Notes, number_of, before, earlier, least, joined, paired, if_sound, sound, made}
+use Rattle.ob_rules.specs.Judged.{Judged, Notes, number_of, before, earlier, least, joined, paired, if_sound, sound, made, is_quiet, if_quiet, behind_quiet}
 use Rattle.ob_rules.specs.Books.{book_after}
 use Rattle.ob_rules.specs.Names.{Around}
 use Rattle.ob_rules.specs.Types.{Named, Typing, Parameters, WrittenSection, mode_of, new_name, twice_if, knows, parameter_as, with_notes, with_types, declare_all, parameters_of, parameters_joined, sections}
 use Rattle.ob_rules.proofs.RuleLaws.{same_number}
 use Rattle.ob_rules.proofs.Least.{least_append}
 use Rattle.ob_rules.proofs.BookLaws.{after_none, after_joined}
-use Rattle.ob_cdecl_field.specs.ParameterMakes.{names_declared, behind_names, no_parameters, join_parameters, section_typing, behind_section}
+use Rattle.ob_cdecl_field.specs.ParameterMakes.{names_declared, behind_names, no_parameters, join_parameters, section_typing, section_made, behind_section}
 use Rattle.ob_cdecl_field.proofs.FieldLaws.{quiet, two_parts}
 
 -- NAMES AMONG THE TYPES THAT THE SECTION MAKES, AND BEFORE THEM
@@ -126,15 +126,26 @@ turned b t d e =
     ∙ sym (after_joined b (loud d.broken) t)
     ∙ ap (λ n. book_after (book_after b n) t) (sym e)
 
+-- WHETHER THE NAMES SAY ANYTHING
+
+pub quiet_names : (a b c d : Notebook) (before : Option Broken) (q : Bool) (n : Notes) → before ≡ a.broken → b ≡ record a { broken = None } → c ≡ book_after b n
+    → ((k : Notebook) (m : Notes) → c ≡ book_after (record k { broken = None }) m → q ≡ is_quiet m.broken)
+    → ((k : Notebook) (m : Notes) → c ≡ book_after (record k { broken = None }) m → before ≡ k.broken → d ≡ book_after k m)
+    → (q ≡ is_quiet n.broken) × (d ≡ book_after a n)
+quiet_names a b c d before q n e f g quiet back =
+    let h : c ≡ book_after (record a { broken = None }) n = g ∙ ap (λ k. book_after k n) f in
+    (quiet a n h, back a n h e)
+
 -- A SECTION, AND THOSE BEHIND IT
 
-node_of : (t : Option Typing) (f : Typing → Parameters) (r : Option Parameters) → (if_sound (paired (if_sound t (λ x. sound (f x))).node r) (λ q. sound (parameters_joined q.0 q.1))).node ≡ join_parameters (option_map f t) r
-node_of None f r = refl
-node_of (Some t) f None = refl
-node_of (Some t) f (Some p) = refl
+node_of : (b : Bool) (t : Option Typing) (f : Typing → Parameters) (r : Option Parameters) → (if_sound (paired (if_quiet b (if_sound t (λ x. sound (f x))).node) r) (λ q. sound (parameters_joined q.0 q.1))).node ≡ join_parameters (if_quiet b (option_map f t)) r
+node_of false t f r = refl
+node_of true None f r = refl
+node_of true (Some t) f None = refl
+node_of true (Some t) f (Some p) = refl
 
 notes_by : (b : Notebook) (t : Judged Typing) (f : Typing → Parameters) (d : Notes) (r : Judged Parameters) → d ≡ loud d.broken
-    → book_after (book_after (book_after b t.notes) d) r.notes ≡ book_after b (joined (joined (joined d (made f t).notes) r.notes) (if_sound (paired (made f t).node r.node) (λ q. sound (parameters_joined q.0 q.1))).notes)
+    → book_after (book_after (book_after b t.notes) d) r.notes ≡ book_after b (joined (joined (joined d (made f t).notes) r.notes) (if_sound (paired (behind_quiet d (made f t)).node r.node) (λ q. sound (parameters_joined q.0 q.1))).notes)
 notes_by b t f d r e =
     let last = (if_sound t.node (λ x. sound (f x))).notes in
     ap (λ c. book_after c r.notes) (
@@ -144,11 +155,11 @@ notes_by b t f d r e =
     ∙ after_joined (book_after b d) t.notes last
     ∙ after_joined b d (joined t.notes last)
     )
-    ∙ two_parts b (joined d (made f t).notes) r.notes (paired (made f t).node r.node) (λ q. parameters_joined q.0 q.1)
+    ∙ two_parts b (joined d (made f t).notes) r.notes (paired (behind_quiet d (made f t)).node r.node) (λ q. parameters_joined q.0 q.1)
 
 pub sections_node : (u : Around) (name : List ℕ) (i : ℕ) (s : WrittenSection) (ss : List WrittenSection)
-    → (sections u name i (s ∷ ss)).found.node ≡ join_parameters (option_map (parameters_of u (mode_of s.is_var) s.names) (section_typing u name i s).node) (sections (behind_section u name i s) name (i + length s.names) ss).found.node
-sections_node u name i s ss = node_of (section_typing u name i s).node (parameters_of u (mode_of s.is_var) s.names) (sections (behind_section u name i s) name (i + length s.names) ss).found.node
+    → (sections u name i (s ∷ ss)).found.node ≡ join_parameters (section_made u (mode_of s.is_var) s.names (section_typing u name i s).node) (sections (behind_section u name i s) name (i + length s.names) ss).found.node
+sections_node u name i s ss = node_of (is_quiet (declare_all u (mode_of s.is_var) (section_typing u name i s).node s.names).notes.broken) (section_typing u name i s).node (parameters_of u (mode_of s.is_var) s.names) (sections (behind_section u name i s) name (i + length s.names) ss).found.node
 
 pub sections_notes : (b : Notebook) (u : Around) (name : List ℕ) (i : ℕ) (s : WrittenSection) (ss : List WrittenSection)
     → book_after (book_after (book_after b (section_typing u name i s).notes) (declare_all u (mode_of s.is_var) (section_typing u name i s).node s.names).notes) (sections (behind_section u name i s) name (i + length s.names) ss).found.notes ≡ book_after b (sections u name i (s ∷ ss)).found.notes
@@ -197,6 +208,5 @@ pub sections_first : (u : Around) (name : List ℕ) (i : ℕ) (ss : List Written
 sections_first u name i [] = refl
 sections_first u name i (s ∷ ss) =
     let t = (section_typing u name i s).node in
-    let f = parameters_of u (mode_of s.is_var) s.names in
     let r = (sections (behind_section u name i s) name (i + length s.names) ss).found.node in
-    ap (join_parameters (Some no_parameters)) (sections_node u name i s ss) ∙ join_first (option_map f t) r ∙ sym (sections_node u name i s ss)
+    ap (join_parameters (Some no_parameters)) (sections_node u name i s ss) ∙ join_first (section_made u (mode_of s.is_var) s.names t) r ∙ sym (sections_node u name i s ss)

@@ -1,5 +1,6 @@
 -- Parameters, as they are declared in turn.
 use Rattle.std.specs.Prelude.{ℕ, List, [], ◌∷◌, map, Option, Some, None, true}
+use Rattle.std.specs.Option.{option_map}
 use Rattle.ob_tree.specs.declared.ident.Ident.{Ident}
 use Rattle.ob_tree.specs.declared.ident.Mark.{Mark}
 use Rattle.ob_tree.specs.declared.ident.Mark.TheVariants as mark
@@ -11,10 +12,10 @@ use Rattle.ob_types.specs.declared.typed.TypedParameter.{TypedParameter}
 use Rattle.ob_types.specs.declared.typed.Variable.TheVariants as variable
 use Rattle.ob_rules.specs.declared.entity.Entity.{Entity}
 use Rattle.ob_rules.specs.declared.entity.Entity.TheVariants as entity
-use Rattle.ob_rules.specs.Judged.{Judged, no_notes}
+use Rattle.ob_rules.specs.Judged.{Judged, no_notes, is_quiet, if_quiet}
 use Rattle.ob_rules.specs.Shapes.{passing_of}
 use Rattle.ob_rules.specs.Names.{Around, map_of}
-use Rattle.ob_rules.specs.Types.{Named, Typing, Parameters, WrittenSection, mode_of, section_name, with_notes, new_name, knows, declare_all, with_made, parameters_joined, with_result, typed_as}
+use Rattle.ob_rules.specs.Types.{Named, Typing, Parameters, WrittenSection, mode_of, section_name, with_notes, new_name, knows, declare_all, with_made, parameters_of, parameters_joined, with_result, typed_as}
 
 -- what a parameter stands for, where its type keeps all rules; the types that it makes are around
 abbrev pub parameter_entity : Around → Mode → Ident → Option TypeRef → Entity
@@ -29,6 +30,10 @@ names_declared v m t (x ∷ xs) = with_notes (new_name v x) (names_declared (kno
 -- what stands around behind a section
 abbrev pub behind_names : Around → Mode → List Ident → Option Typing → Around
 behind_names u m xs t = with_made (declare_all u m t xs).around t
+
+-- the parameters of a section, where their type keeps all rules and so do their names
+abbrev pub section_made : Around → Mode → List Ident → Option Typing → Option Parameters
+section_made u m xs t = if_quiet (is_quiet (declare_all u m t xs).notes.broken) (option_map (parameters_of u m xs) t)
 
 -- the type of a section
 abbrev pub section_typing : Around → List ℕ → ℕ → WrittenSection → Judged Typing

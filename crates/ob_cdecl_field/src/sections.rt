@@ -8,7 +8,8 @@ ghost use Rattle.ob_cdecl_scopes.specs.Scopes.{around_of};
 ghost use Rattle.ob_rules.specs.Books.{book_after};
 ghost use Rattle.ob_rules.specs.Types as spec;
 ghost use Rattle.ob_cdecl_field.specs.Makes.{typing_of, parameters_of};
-ghost use Rattle.ob_cdecl_field.specs.ParameterMakes.{no_parameters as nothing_yet, behind_names, modes_all, inside_all, parameters_at, join_parameters, result_joined, procedure_made};
+ghost use Rattle.ob_cdecl_field.specs.ParameterMakes.{no_parameters as nothing_yet, behind_names, modes_all, inside_all, parameters_at, join_parameters, result_joined, procedure_made, section_made};
+ghost use Rattle.ob_rules.specs.Judged.{if_quiet as only_quiet};
 
 use crate::made::{Parameters, Typed, add_types, typed_as};
 use crate::params::declare_names;
@@ -116,9 +117,9 @@ fn some_known<E: Imports>(
     Ok(parameters)
 }
 
-/// Parameters of one section, where their type is judged. From here on they are known, and the types
-/// that they make are around.
-pub fn section_known<E: Imports>(
+// Parameters of one section, where their type is judged. From here on they are known, and the types
+// that they make are around.
+fn section_declared<E: Imports>(
     alloc: Global,
     scope: &mut Scope<'_, E>,
     book: &mut Notebook,
@@ -140,6 +141,34 @@ pub fn section_known<E: Imports>(
             Ok(Some(parameters))
         }
     }
+}
+
+fn if_quiet(quiet: bool, parameters: Option<Parameters>) -> Option<Parameters>
+    ensures { option_map parameters_of result ≡ only_quiet quiet (option_map parameters_of parameters) }
+{
+    if quiet { parameters } else { None }
+}
+
+/// Parameters of one section, where their type is judged; none where their names break a rule. From
+/// here on they are known, and the types that they make are around.
+#[tactic(auto, using(crate::proofs::SectionLaws::quiet_names))]
+pub fn section_known<E: Imports>(
+    alloc: Global,
+    scope: &mut Scope<'_, E>,
+    book: &mut Notebook,
+    mode: Mode,
+    names: &[Ident],
+    typed: Option<Typed>,
+) -> Result<Option<Parameters>, AllocError>
+    ensures made { IfOk result (λ r. option_map parameters_of r ≡ section_made (around_of E.types scope.old) mode names.now (option_map typing_of typed)) }
+    ensures known { OnOk result (around_of E.types scope.new ≡ behind_names (around_of E.types scope.old) mode names.now (option_map typing_of typed)) }
+    ensures noted { OnOk result (book.new ≡ book_after book.old (spec.declare_all (around_of E.types scope.old) mode (option_map typing_of typed) names.now).notes) }
+{
+    let before = book.set_aside();
+    let parameters = section_declared(alloc, scope, book, mode, names, typed)?;
+    let quiet = book.is_quiet();
+    book.put_back(before);
+    Ok(if_quiet(quiet, parameters))
 }
 
 /// No parameters. Takes no memory.

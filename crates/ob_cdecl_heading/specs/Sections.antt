@@ -4,11 +4,15 @@ use Rattle.ob_tree.specs.declared.decl.Heading.{Heading}
 use Rattle.ob_rules.specs.declared.entity.Known.{Known}
 use Rattle.ob_rules.specs.Names.{Around}
 use Rattle.ob_rules.specs.Types.{Sections, parameters_in, inner, written_parameters}
-use Rattle.ob_rules.specs.Headings.{BoundAs, Head, knows_receiver, head_twice, bound_before}
+use Rattle.ob_rules.specs.Headings.{BoundAs, Head, anew, knows_receiver, head_twice, bound_before}
 
 -- the parameters of a heading, with its receiver known before them
+abbrev pub sections_as : Around → Heading → Option (Option BoundAs) → List ℕ → Sections
+sections_as u h b name = parameters_in (knows_receiver (inner u) h.receiver b) name (written_parameters h.parameters)
+
+-- where no other declaration of the name has made their types
 abbrev pub sections_of : Around → Heading → Option (Option BoundAs) → List ℕ → Sections
-sections_of u h b name = parameters_in (knows_receiver (inner u) h.receiver b) name (written_parameters h.parameters)
+sections_of u h b name = anew u h.name.ident.«pos» (sections_as u h b name)
 
 -- what is around behind them
 abbrev pub around_inside : Around → Heading → Option (Option BoundAs) → List ℕ → Around

@@ -8,12 +8,12 @@ ghost use Rattle.ob_cdecl_field.specs.Makes.{parameters_of};
 ghost use Rattle.ob_cdecl_scopes.specs.Bodies.{names_in};
 ghost use Rattle.ob_cdecl_scopes.specs.Scopes.{around_of};
 ghost use Rattle.ob_rules.specs.Books.{book_after};
-ghost use Rattle.ob_rules.specs.Judged.{paired};
+ghost use Rattle.ob_rules.specs.Judged.{paired, if_sound};
 ghost use Rattle.ob_rules.specs.Names.{Around, found_in_scope};
 ghost use Rattle.ob_rules.specs.Types.{inner, with_types};
 ghost use Rattle.ob_rules.specs.Headings as spec;
 ghost use Rattle.ob_cdecl_heading.specs.Kept.{IsKept, AreKept, seen, bound_seen, owner_seen};
-ghost use Rattle.ob_cdecl_heading.specs.Sections.{sections_of, around_inside, latest_in, bound_twice};
+ghost use Rattle.ob_cdecl_heading.specs.Sections.{sections_as, sections_of, around_inside, latest_in, bound_twice};
 
 use crate::head::{BoundAs, Head};
 use crate::heads::Heads;
@@ -23,7 +23,8 @@ use ob_cdecl_scopes::{Imports, Inside, Scope};
 use ob_cdecl_type::check_parameters;
 use ob_cexpr_trait::CheckExpr;
 use ob_rules::{Entity, Known, Notebook, Rule, Surroundings};
-use ob_tree::{CompactName, Heading, Ident, Mark, Name, ObjName, QName, Receiver};
+use ob_tree::{CompactName, Heading, Ident, Mark, Name, ObjName, Pos, QName, Receiver};
+use ob_types::TypedType;
 use ob_types_trees::copy_signature;
 use std::alloc::{AllocError, Global};
 
@@ -91,8 +92,8 @@ fn parameters_inside<E: Imports, C: CheckExpr>(
     bound: &Option<Option<BoundAs>>,
     name: &[u8],
 ) -> Result<Option<Parameters>, AllocError>
-    ensures made { IfOk result (λ r. option_map parameters_of r ≡ (sections_of (around_of E.types scope.old) heading.now (owner_seen bound.now) name.now).found.node) }
-    ensures noted { OnOk result (book.new ≡ book_after book.old (sections_of (around_of E.types scope.old) heading.now (owner_seen bound.now) name.now).found.notes) }
+    ensures made { IfOk result (λ r. option_map parameters_of r ≡ (sections_as (around_of E.types scope.old) heading.now (owner_seen bound.now) name.now).found.node) }
+    ensures noted { OnOk result (book.new ≡ book_after book.old (sections_as (around_of E.types scope.old) heading.now (owner_seen bound.now) name.now).found.notes) }
     ensures known { OnOk result (around_of E.types scope.new ≡ around_inside (around_of E.types scope.old) heading.now (owner_seen bound.now) name.now) }
 {
     enter_heading(scope)?;
@@ -111,15 +112,67 @@ fn heading_parameters<E: Imports, C: CheckExpr>(
     bound: &Option<Option<BoundAs>>,
     name: &[u8],
 ) -> Result<(Option<Parameters>, Inside), AllocError>
+    ensures made { IfOk result (λ r. option_map parameters_of r.0 ≡ (sections_as (around_of E.types scope.old) heading.now (owner_seen bound.now) name.now).found.node) }
+    ensures inside { IfOk result (λ r. names_in r.1 ≡ spec.of_scope (around_of E.types scope.old).scope (sections_of (around_of E.types scope.old) heading.now (owner_seen bound.now) name.now).known) }
+    ensures scope { IfOk result (λ r. r.1.scope ≡ suc (around_of E.types scope.old).scope) }
+    ensures noted { OnOk result (book.new ≡ book_after book.old (sections_as (around_of E.types scope.old) heading.now (owner_seen bound.now) name.now).found.notes) }
+    ensures stays { OnOk result (around_of E.types scope.new ≡ around_of E.types scope.old) }
+{
+    let _ = scope.mark();
+    let found = parameters_inside(alloc, checker, scope, book, heading, bound, name)?;
+    let inside = scope.leave_heading(alloc)?;
+    Ok((found, inside))
+}
+
+fn are_there<E: Imports>(scope: &Scope<'_, E>, types: &[TypedType]) -> bool
+    ensures { result ≡ spec.are_there (around_of E.types scope.now) types.now }
+{
+    'types: for t in types {
+        if scope.has_type(t.name.as_bytes()) {
+            return true;
+        }
+    }
+    false
+}
+
+// Rule 1.
+fn made_anew<E: Imports>(
+    scope: &Scope<'_, E>,
+    book: &mut Notebook,
+    at: Pos,
+    found: Option<Parameters>,
+) -> Option<Parameters>
+    ensures made { option_map parameters_of result ≡ (if_sound (option_map parameters_of found) (spec.made_anew (around_of E.types scope.now) at)).node }
+    ensures noted { book.new ≡ book_after book.old (if_sound (option_map parameters_of found) (spec.made_anew (around_of E.types scope.now) at)).notes }
+{
+    match found {
+        None => None,
+        Some(parameters) => {
+            let there = are_there(scope, parameters.made.as_slice());
+            book.unless(there, Rule::DeclaredTwice, at, parameters)
+        }
+    }
+}
+
+// The parameters of a heading, where no other declaration of the name has made their types, and the
+// names that are declared in it.
+fn heading_anew<E: Imports, C: CheckExpr>(
+    alloc: Global,
+    checker: &C,
+    scope: &mut Scope<'_, E>,
+    book: &mut Notebook,
+    heading: &Heading,
+    bound: &Option<Option<BoundAs>>,
+    name: &[u8],
+) -> Result<(Option<Parameters>, Inside), AllocError>
     ensures made { IfOk result (λ r. option_map parameters_of r.0 ≡ (sections_of (around_of E.types scope.old) heading.now (owner_seen bound.now) name.now).found.node) }
     ensures inside { IfOk result (λ r. names_in r.1 ≡ spec.of_scope (around_of E.types scope.old).scope (sections_of (around_of E.types scope.old) heading.now (owner_seen bound.now) name.now).known) }
     ensures scope { IfOk result (λ r. r.1.scope ≡ suc (around_of E.types scope.old).scope) }
     ensures noted { OnOk result (book.new ≡ book_after book.old (sections_of (around_of E.types scope.old) heading.now (owner_seen bound.now) name.now).found.notes) }
     ensures stays { OnOk result (around_of E.types scope.new ≡ around_of E.types scope.old) }
 {
-    let _ = scope.mark();
-    let found = parameters_inside(alloc, checker, scope, book, heading, bound, name)?;
-    let inside = scope.leave_heading(alloc)?;
+    let (found, inside) = heading_parameters(alloc, checker, scope, book, heading, bound, name)?;
+    let found = made_anew(&*scope, book, heading.name.ident.pos, found);
     Ok((found, inside))
 }
 
@@ -182,7 +235,7 @@ fn head_of<E: Imports, C: CheckExpr>(
     let bound = owner_if(alloc, &*scope, &mut notes, &heading.receiver)?;
     let path = heading_path(alloc, &*scope, &bound, &heading.name.ident.name)?;
     let name = forward_name(alloc, forward, path.as_bytes())?;
-    let (found, inside) = heading_parameters(
+    let (found, inside) = heading_anew(
         alloc,
         checker,
         scope,

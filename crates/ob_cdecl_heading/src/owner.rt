@@ -8,6 +8,7 @@ ghost use Rattle.std.specs.Option.{option_map, option_copied};
 ghost use Rattle.ob_cdecl_scopes.specs.Scopes.{around_of};
 ghost use Rattle.ob_rules.specs.Books.{book_after};
 ghost use Rattle.ob_rules.specs.Names.{map_of};
+ghost use Rattle.ob_rules.specs.Shapes.{received_record};
 ghost use Rattle.ob_rules.specs.Headings as spec;
 ghost use Rattle.ob_cdecl_heading.specs.Kept.{bound_seen, owner_seen};
 ghost use Rattle.ob_cdecl_heading.specs.Owners.{record_received, is_silent as says_nothing, bound_by as binds};
@@ -63,7 +64,7 @@ fn own_record<'a, E: Imports>(scope: &Scope<'_, E>, name: Option<&'a QName>) -> 
 }
 
 fn received_record<'a, T: Types>(types: &'a T, is_var: bool, of: &'a TypeRef) -> Option<&'a QName>
-    ensures { option_copied result ≡ spec.received_record (T.types types.now) is_var of.now }
+    ensures { option_copied result ≡ received_record (T.types types.now) is_var of.now }
 {
     if is_var {
         record_of(types, of)

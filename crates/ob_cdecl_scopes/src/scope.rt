@@ -1,6 +1,7 @@
 //! What is declared around a place of a text, looked up by name.
 
 ghost use Rattle.std.specs.Prelude.{◌≡◌, [], ◌∷◌, ◌++◌, ◌<◌, ◌≤◌, ◌-◌, ◌+◌, true, length, drop, List, Option, Some, None, is_some, bytes_eq, reverse, IsTrue, OnOk, IfOk};
+ghost use Rattle.std.specs.List.{find};
 ghost use Rattle.std.specs.Option.{option_copied};
 ghost use Rattle.std.specs.Option.{option_map};
 ghost use Rattle.ob_rules.specs.Names.{own_desc, bound_for};
@@ -364,6 +365,13 @@ impl<'a, E: Imports> Scope<'a, E> {
         ensures { around_of E.types self.new ≡ record (around_of E.types self.old) { coming = coming } }
     {
         self.coming = coming;
+    }
+
+    /// Whether the module has a type of that name. Takes no memory.
+    pub fn has_type(&self, name: &[u8]) -> bool
+        ensures { result ≡ is_some (find (λ t. bytes_eq t.name name.now) (around_of E.types self.now).own) }
+    {
+        self.own.find(name).is_some()
     }
 
     /// The types that the module has, the oldest first. Takes no memory.

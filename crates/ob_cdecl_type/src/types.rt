@@ -13,7 +13,7 @@ ghost use Rattle.ob_rules.specs.Expressions.{phrase_of};
 ghost use Rattle.ob_rules.specs.Types as spec;
 ghost use Rattle.ob_cdecl_field.specs.Makes.{typing_of, parameters_of};
 ghost use Rattle.ob_cdecl_field.specs.FieldMakes.{fields_seen, list_judged};
-ghost use Rattle.ob_cdecl_field.specs.ParameterMakes.{section_typing, behind_section};
+ghost use Rattle.ob_cdecl_field.specs.ParameterMakes.{section_typing, section_made, behind_section};
 ghost use Rattle.ob_cdecl_type.specs.Nested.{open_judged, written_fields, fields_as, written_section, section_as};
 
 use crate::arrays::{array_of, arrays_of, inner_name, lengths_of};
@@ -402,7 +402,7 @@ fn section<E: Imports, C: CheckExpr>(
     number: usize,
     written: &Section,
 ) -> Result<Option<Parameters>, AllocError>
-    ensures made { IfOk result (λ r. option_map parameters_of r ≡ option_map (spec.parameters_of (around_of E.types scope.old) (spec.mode_of written.now.is_var) written.now.names) (section_typing (around_of E.types scope.old) name.now number (section_as written.now)).node) }
+    ensures made { IfOk result (λ r. option_map parameters_of r ≡ section_made (around_of E.types scope.old) (spec.mode_of written.now.is_var) written.now.names (section_typing (around_of E.types scope.old) name.now number (section_as written.now)).node) }
     ensures noted { OnOk result (book.new ≡ book_after (book_after book.old (section_typing (around_of E.types scope.old) name.now number (section_as written.now)).notes) (spec.declare_all (around_of E.types scope.old) (spec.mode_of written.now.is_var) (section_typing (around_of E.types scope.old) name.now number (section_as written.now)).node written.now.names).notes) }
     ensures known { OnOk result (around_of E.types scope.new ≡ behind_section (around_of E.types scope.old) name.now number (section_as written.now)) }
 {

@@ -75,36 +75,61 @@ fn field_of<S: Surroundings>(
     })
 }
 
-// The record that the type stands for or points to.
-fn record_meant<'a, T: Types>(types: &'a T, t: &'a TypeRef) -> Option<&'a QName>
-    ensures { option_copied result ≡ spec.record_meant (T.types types.now) t.now (shapes.record_of (T.types types.now) t.now) }
+// The record that a receiver of that kind and type is for.
+fn received_record<'a, T: Types>(types: &'a T, is_var: bool, t: &'a TypeRef) -> Option<&'a QName>
+    ensures { option_copied result ≡ shapes.received_record (T.types types.now) is_var t.now }
 {
-    match record_of(types, t) {
-        Some(name) => Some(name),
-        None => pointed_record(types, t),
+    if is_var {
+        record_of(types, t)
+    } else {
+        pointed_record(types, t)
     }
 }
 
-fn is_of<T: Types>(types: &T, owner: &QName, record: Option<&QName>) -> Result<bool, AllocError>
-    ensures { IfOk result (λ r. r ≡ spec.is_of (T.types types.now) owner.now (option_copied record.entry)) }
+fn extends_own<S: Surroundings>(here: &S, owner: &QName, name: &QName) -> Result<bool, AllocError>
+    ensures { IfOk result (λ r. r ≡ spec.is_of (S.around here.now) owner.now (Some name.now)) }
+{
+    if name.module.as_bytes() == here.unit().as_bytes() {
+        extends_record(types(here), owner, name)
+    } else {
+        Ok(false)
+    }
+}
+
+fn is_of<S: Surroundings>(
+    here: &S,
+    owner: &QName,
+    record: Option<&QName>,
+) -> Result<bool, AllocError>
+    ensures { IfOk result (λ r. r ≡ spec.is_of (S.around here.now) owner.now (option_copied record.entry)) }
 {
     match record {
         None => Ok(false),
-        Some(name) => extends_record(types, owner, name),
+        Some(name) => extends_own(here, owner, name),
     }
 }
 
-fn comes_of_type<T: Types>(types: &T, owner: &QName, t: &TypeRef) -> Result<bool, AllocError>
-    ensures { IfOk result (λ r. r ≡ spec.is_of (T.types types.now) owner.now (spec.record_meant (T.types types.now) t.now (shapes.record_of (T.types types.now) t.now))) }
+fn comes_of_type<S: Surroundings>(
+    here: &S,
+    owner: &QName,
+    is_var: bool,
+    t: &TypeRef,
+) -> Result<bool, AllocError>
+    ensures { IfOk result (λ r. r ≡ spec.is_of (S.around here.now) owner.now (shapes.received_record (map_of (S.around here.now)) is_var t.now)) }
 {
-    is_of(types, owner, record_meant(types, t))
+    is_of(here, owner, received_record(types(here), is_var, t))
 }
 
-fn comes_of<S: Surroundings>(here: &S, owner: &QName, entity: &Entity) -> Result<bool, AllocError>
-    ensures { IfOk result (λ r. r ≡ spec.comes_of (S.around here.now) owner.now entity.now) }
+fn comes_of<S: Surroundings>(
+    here: &S,
+    owner: &QName,
+    is_var: bool,
+    entity: &Entity,
+) -> Result<bool, AllocError>
+    ensures { IfOk result (λ r. r ≡ spec.comes_of (S.around here.now) owner.now is_var entity.now) }
 {
     match entity {
-        Entity::TypeName(t) => comes_of_type(types(here), owner, t),
+        Entity::TypeName(t) => comes_of_type(here, owner, is_var, t),
         Entity::Constant(_)
         | Entity::Variable(_, _)
         | Entity::Procedure(_, _)
@@ -116,12 +141,12 @@ fn comes_of<S: Surroundings>(here: &S, owner: &QName, entity: &Entity) -> Result
     }
 }
 
-fn comes_for<S: Surroundings>(here: &S, owner: &QName, of: &Name) -> Result<bool, AllocError>
-    ensures { IfOk result (λ r. r ≡ spec.comes_for (S.around here.now) owner.now (names.find_name (S.around here.now).known of.now) of.now) }
+fn comes_for<S: Surroundings>(here: &S, owner: &QName, coming: &Coming) -> Result<bool, AllocError>
+    ensures { IfOk result (λ r. r ≡ spec.comes_for (S.around here.now) owner.now (names.find_name (S.around here.now).known coming.now.owner) coming.now) }
 {
-    match here.known(of) {
-        None => Ok(here.declares_type(of)),
-        Some(known) => comes_of(here, owner, &known.what),
+    match here.known(&coming.owner) {
+        None => Ok(here.declares_type(&coming.owner)),
+        Some(known) => comes_of(here, owner, coming.is_var, &known.what),
     }
 }
 
@@ -134,7 +159,7 @@ fn comes_as<S: Surroundings>(
     ensures { IfOk result (λ r. r ≡ spec.comes_as (S.around here.now) owner.now name.now coming.now) }
 {
     if coming.name.as_bytes() == name.as_bytes() {
-        comes_for(here, owner, &coming.owner)
+        comes_for(here, owner, coming)
     } else {
         Ok(false)
     }

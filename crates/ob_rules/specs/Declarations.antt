@@ -140,9 +140,26 @@ abbrev pub types_made : Option (Mark × Typing) → List TypedType
 types_made None = []
 types_made (Some p) = p.1.made
 
+-- a declaration counts where its name is new in the scope
+abbrev pub if_new : {A : Type 0} → Option Known → Option A → Option A
+if_new None m = m
+if_new (Some k) m = None
+
+abbrev pub later_if_new : Option Known → List Later → List Later
+later_if_new None ls = ls
+later_if_new (Some k) ls = []
+
+-- the mark of a type whose name is new; where it is not, the declaration makes nothing
+abbrev pub newly : Around → IdentDef → Judged Mark
+newly u d = record { node = if_new (found_in_scope u d.ident.name) (marked u false d).node; notes = (marked u false d).notes }
+
+-- and leaves nothing for later
+abbrev pub of_new : Around → Ident → Notes → Notes
+of_new u x n = record { broken = n.broken; objects = n.objects; types = n.types; lengths = n.lengths; later = later_if_new (found_in_scope u x.name) n.later }
+
 abbrev pub type_with : Around → Ident → Judged (Mark × Typing) → Declared
 type_with u x j = record {
-  part = record { notes = joined j.notes (twice u x); contents = record no_contents { types = types_made j.node } };
+  part = record { notes = joined (of_new u x j.notes) (twice u x); contents = record no_contents { types = types_made j.node } };
   around = declare (with_types u (types_made j.node)) x (type_entity j.node);
 }
 
@@ -150,7 +167,7 @@ abbrev pub type_marked : Around → Ident → Written → Judged Mark → Declar
 type_marked u x w m = type_with u x (both m (typing_as u (u.path ++ x.name) (mark_or_hidden m.node) w w.name))
 
 abbrev pub type_declared : IdentDef → Written → Around → Declared
-type_declared d n u = type_marked u d.ident n (marked u false d)
+type_declared d n u = type_marked u d.ident n (newly u d)
 
 -- VARIABLES
 
@@ -264,9 +281,9 @@ abbrev pub is_inline : Later → Bool
 is_inline (later.PointsTo x at t inline) = inline
 is_inline (later.Inherits x t) = false
 
--- neither record nor array; a declaration that breaks a rule is not held
+-- neither record nor array: a pointer that is written there, or a type that is held, as one whose declaration breaks a rule is not
 abbrev pub is_wrong : Map → Later → Bool
-is_wrong map (later.PointsTo x at t inline) = is_held map t && is_held map (target map 201 t) && not (is_structured map t)
+is_wrong map (later.PointsTo x at t inline) = inline || (is_held map t && is_held map (target map 201 t) && not (is_structured map t))
 is_wrong map (later.Inherits x t) = false
 
 abbrev pub wrong_at : Later → Notes
@@ -538,7 +555,7 @@ imported before (i ∷ is) = import_if (is_out (target_of i).name || is_among (t
 
 abbrev pub coming_of : Ident → Option RawReceiver → Option Coming
 coming_of x None = None
-coming_of x (Some r) = Some (record { owner = r.owner.name; name = x.name })
+coming_of x (Some r) = Some (record { owner = r.owner.name; is_var = r.is_var; name = x.name })
 
 abbrev pub coming_in : Written_procedure → Option Coming
 coming_in p = coming_of p.heading.name.ident p.heading.receiver

@@ -37,7 +37,7 @@ use Rattle.ob_rules.specs.declared.meant.Where.TheVariants.{AsStatement, Elsewhe
 use Rattle.ob_rules.specs.declared.broken.Predeclared.{Predeclared}
 use Rattle.ob_rules.specs.declared.broken.Predeclared.TheVariants as pre
 use Rattle.ob_rules.specs.Judged.{Judged, Notes, sound, silent, breaks, also, wants, found_or, noted, joined, no_notes, made, ◌▷◌}
-use Rattle.ob_rules.specs.Shapes.{Map, Member, AField, AMethod, member, pointed, pointed_record, record_of, array_of, is_array, is_held, is_record, is_pointer, signature_at, extends_record, base_record}
+use Rattle.ob_rules.specs.Shapes.{Map, Member, AField, AMethod, member, pointed, pointed_record, received_record, record_of, array_of, is_array, is_held, is_record, is_pointer, signature_at, extends_record, base_record}
 use Rattle.ob_rules.specs.Names.{Around, map_of, named, is_out, out_procedure, exported, type_named, is_type_name, find_name}
 use Rattle.ob_rules.specs.declared.values.Place.{Place}
 use Rattle.ob_rules.specs.declared.values.Valued.{Valued}
@@ -186,25 +186,22 @@ select_bound at pointer c = with_receiver c.method.receiver pointer at c
 abbrev pub same_object : QName → QName → Bool
 same_object p q = bytes_eq p.module q.module && bytes_eq p.object q.object
 
-abbrev pub record_meant : Map → TypeRef → Option QName → Option QName
-record_meant map t (Some q) = Some q
-record_meant map t None = pointed_record map t
+-- the record is of this module, and q is it or an extension of it
+abbrev pub is_of : Around → QName → Option QName → Bool
+is_of u q None = false
+is_of u q (Some r) = bytes_eq r.module u.unit && extends_record (map_of u) q r
 
-abbrev pub is_of : Map → QName → Option QName → Bool
-is_of map q None = false
-is_of map q (Some r) = extends_record map q r
+abbrev pub comes_of : Around → QName → Bool → Entity → Bool
+comes_of u q var (entity.TypeName t) = is_of u q (received_record (map_of u) var t)
+comes_of u q var e = false
 
-abbrev pub comes_of : Around → QName → Entity → Bool
-comes_of u q (entity.TypeName t) = is_of (map_of u) q (record_meant (map_of u) t (record_of (map_of u) t))
-comes_of u q e = false
-
--- the receiver's type is the record or a base of it, or is not declared yet
-abbrev pub comes_for : Around → QName → Option Known → List ℕ → Bool
-comes_for u q None owner = list_any (λ x. bytes_eq x owner) u.later_types
-comes_for u q (Some k) owner = comes_of u q k.what
+-- the receiver is one of the record or of a base of it, or its type is not declared yet
+abbrev pub comes_for : Around → QName → Option Known → Coming → Bool
+comes_for u q None c = list_any (λ x. bytes_eq x c.owner) u.later_types
+comes_for u q (Some k) c = comes_of u q c.is_var k.what
 
 abbrev pub comes_as : Around → QName → List ℕ → Coming → Bool
-comes_as u q x c = bytes_eq c.name x && comes_for u q (find_name u.known c.owner) c.owner
+comes_as u q x c = bytes_eq c.name x && comes_for u q (find_name u.known c.owner) c
 
 -- a bound procedure of that name that the text has further on, for the record or a base of it
 abbrev pub comes : Around → QName → List ℕ → Bool

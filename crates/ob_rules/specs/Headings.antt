@@ -34,7 +34,7 @@ use Rattle.ob_rules.specs.declared.entity.Entity.TheVariants as entity
 use Rattle.ob_rules.specs.declared.broken.Broken.{Broken}
 use Rattle.ob_rules.specs.declared.broken.Rule.TheVariants as rule
 use Rattle.ob_rules.specs.Judged.{notes_if, Judged, Notes, sound, silent, breaks, also, wants, unless, both, made, noted, joined, no_notes, broken_at, ◌▷◌}
-use Rattle.ob_rules.specs.Shapes.{Map, Member, AField, AMethod, member, record_of, pointed, pointed_record, is_held, base_record}
+use Rattle.ob_rules.specs.Shapes.{Map, Member, AField, AMethod, member, pointed, received_record, is_held, base_record}
 use Rattle.ob_rules.specs.Names.{Around, map_of, in_unit, type_named, found_in_scope}
 use Rattle.ob_rules.specs.Operators.{signatures_match, and_so}
 use Rattle.ob_rules.specs.Types.{Parameters, Sections, WrittenParameters, is_module_level, marked, written_parameters, parameters_in, inner, knows, with_types}
@@ -50,10 +50,6 @@ pub record BoundAs : Type 0 where
 abbrev pub kind_of : Bool → Receiver
 kind_of true = receiver.Record
 kind_of false = receiver.Pointer
-
-abbrev pub received_record : Map → Bool → TypeRef → Option QName
-received_record map true t = record_of map t
-received_record map false t = pointed_record map t
 
 -- a record of the module at hand, declared at module level
 abbrev pub is_own : Around → QName → Bool
@@ -174,8 +170,18 @@ head_from u h forward m b s = record {
   known = u.known;
 }
 
+abbrev pub are_there : Around → List TypedType → Bool
+are_there u ts = list_any (λ t. is_some (find (λ k. bytes_eq k.name t.name) u.own)) ts
+
+-- rule 1: the types that parameters make are there already, made by another declaration of the name
+abbrev pub made_anew : Around → Pos → Parameters → Judged Parameters
+made_anew u at p = unless (are_there u p.made) rule.DeclaredTwice at p
+
+abbrev pub anew : Around → Pos → Sections → Sections
+anew u at s = record { found = s.found ▷ made_anew u at; known = s.known }
+
 abbrev pub heading_parameters : Around → WrittenHeading → Bool → Judged (Option BoundAs) → Sections
-heading_parameters u h forward b = parameters_in (knows_receiver (inner u) h.receiver b.node) (forward_name forward (u.path ++ path_by b.node h.name.ident.name)) h.parameters
+heading_parameters u h forward b = anew u h.name.ident.pos (parameters_in (knows_receiver (inner u) h.receiver b.node) (forward_name forward (u.path ++ path_by b.node h.name.ident.name)) h.parameters)
 
 abbrev pub head_with : Around → WrittenHeading → Bool → Judged Mark → Judged (Option BoundAs) → Head
 head_with u h forward m b = head_from u h forward m b (heading_parameters u h forward b)
@@ -379,9 +385,13 @@ abbrev pub redefined : Bool → Binding → Head → BoundAs → Binding
 redefined true s h b = record { own = s.own; bound = record (bound_as h b) { signature = None } ∷ s.bound; notes = joined s.notes (broken_at rule.UnmatchedRedefinition h.at) }
 redefined false s h b = record { own = s.own; bound = bound_as h b ∷ s.bound; notes = s.notes }
 
--- rule 20: a redefinition whose parameters do not match or whose receiver is of the other kind. It is silent where the other declaration breaks a rule
+-- the parameters of both keep all rules, and do not match
+abbrev pub differ : Map → Head → Method → Bool → Bool
+differ map h m is_sound = is_sound && is_some h.parameters && not (signatures_match map (Some m.signature) (signature_if h.parameters))
+
+-- rule 20: a redefinition whose receiver is of the other kind or whose parameters do not match. The parameters are silent where those of either break a rule
 abbrev pub redefines : Map → Binding → Head → BoundAs → Method → Bool → Binding
-redefines map s h b m is_sound = redefined (is_sound && is_some h.parameters && not (same_kind m.receiver b.receiver && signatures_match map (Some m.signature) (signature_if h.parameters))) s h b
+redefines map s h b m is_sound = redefined (not (same_kind m.receiver b.receiver) || differ map h m is_sound) s h b
 
 abbrev pub sound_in : Option Bound → Bool
 sound_in None = true

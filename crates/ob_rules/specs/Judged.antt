@@ -137,6 +137,14 @@ abbrev pub is_quiet : {A : Type 0} → List A → Bool
 is_quiet [] = true
 is_quiet (b ∷ bs) = false
 
+-- more notes before a part, of which a node is made only where nothing is broken in them
+abbrev pub if_quiet : {A : Type 0} → Bool → Option A → Option A
+if_quiet true x = x
+if_quiet false x = None
+
+abbrev pub behind_quiet : {A : Type 0} → Notes → Judged A → Judged A
+behind_quiet n a = record { node = if_quiet (is_quiet n.broken) a.node; notes = joined n a.notes }
+
 -- THE LEAST BROKEN RULE: THE FIRST BY POSITION, THEN BY NUMBER
 
 -- the number by which a rule is told

@@ -35,7 +35,7 @@ use Rattle.ob_rules.specs.declared.notes.Later.{Later}
 use Rattle.ob_rules.specs.declared.entity.Entity.TheVariants as entity
 use Rattle.ob_rules.specs.declared.notes.Later.TheVariants as later
 use Rattle.ob_rules.specs.declared.broken.Rule.TheVariants as rule
-use Rattle.ob_rules.specs.Judged.{Judged, Notes, sound, silent, breaks, also, wants, unless, both, each_sound, if_there, made, noted, joined, no_notes, broken_at, judge_later, ◌▷◌}
+use Rattle.ob_rules.specs.Judged.{Judged, Notes, sound, silent, breaks, also, wants, unless, both, each_sound, if_there, made, behind_quiet, joined, no_notes, broken_at, judge_later, ◌▷◌}
 use Rattle.ob_rules.specs.Shapes.{Map, Member, member, record_of, is_open, is_structured, is_pointer, passing_of}
 use Rattle.ob_rules.specs.Names.{is_among, is_declared, Around, map_of, in_unit, type_named, found_in_scope}
 use Rattle.ob_rules.specs.Phrases.{Phrase}
@@ -306,8 +306,9 @@ parameters_joined a b = record {
   made = a.made ++ b.made;
 }
 
+-- nothing is made of a section whose names break a rule
 abbrev pub behind_section : Judged Parameters → Notes → Sections → Sections
-behind_section p n rest = record { found = both (noted n p) rest.found ▷ λ q. sound (parameters_joined q.0 q.1); known = rest.known }
+behind_section p n rest = record { found = both (behind_quiet n p) rest.found ▷ λ q. sound (parameters_joined q.0 q.1); known = rest.known }
 
 abbrev pub with_made : Around → Option Typing → Around
 with_made u None = u

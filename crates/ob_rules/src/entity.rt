@@ -42,10 +42,12 @@ pub struct Bound {
     pub signature: Option<Signature>,
 }
 
-/// A bound procedure that the text has further on: its receiver's type, and its name.
+/// A bound procedure that the text has further on: its receiver's type, whether the receiver is a
+/// VAR parameter, and its name.
 #[derive(Clone, Copy)]
 pub struct Coming {
     pub owner: Name,
+    pub is_var: bool,
     pub name: Name,
 }
 
