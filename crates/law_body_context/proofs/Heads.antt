@@ -28,7 +28,7 @@ use Rattle.ob_rules.specs.Types.{Parameters, Sections, parameters_in, marked, in
 use Rattle.ob_rules.specs.Headings.{WrittenHeading, Head, BoundAs, bound_to, owner_of, owner_if, self_of, self_parameter, knows_receiver, path_by, forward_name, bound_in, as_parameters, heading_parameters, head_from, head_of, types_of}
 use Rattle.ob_rules.specs.Declarations.{self_parameters}
 use Rattle.law_typing_forms.specs.Said.{IsOneOf}
-use Rattle.law_methods_described.proofs.Nodes.{Has, then_has}
+use Rattle.law_methods_described.proofs.Nodes.{Has, then_has, anew_has}
 use Rattle.law_typing.specs.Makes.{IfThere}
 use Rattle.law_body_context.specs.Knows.{Grows, Stands, IsDescribed, EntityStands, Knows, IsPlain}
 use Rattle.law_body_context.specs.Judged.{AreOf, IsParameter}
@@ -263,7 +263,8 @@ module _ (IsConstant : Value → Type 0) (unit : List ℕ) (shown : QName → Op
   parameters_in_over : (u : Around) → K u → (h : WrittenHeading) (forward : Bool) → AreSectionsOver IsConstant unit shown out h.parameters.sections → Has (ParametersOver IsConstant unit shown out u.own) (heading_parameters u h forward (owner_if u h.receiver)).found
   parameters_in_over u k h forward y =
       let b = owner_if u h.receiver in
-      parameters_over IsConstant unit shown out u.own (knows_receiver (inner u) h.receiver b.node) (receiver_over u k h.receiver b.node) (forward_name forward (u.path ++ path_by b.node h.name.ident.name)) h.parameters y
+      anew_has (ParametersOver IsConstant unit shown out u.own) u h.name.ident.«pos» (parameters_in (knows_receiver (inner u) h.receiver b.node) (forward_name forward (u.path ++ path_by b.node h.name.ident.name)) h.parameters)
+      (parameters_over IsConstant unit shown out u.own (knows_receiver (inner u) h.receiver b.node) (receiver_over u k h.receiver b.node) (forward_name forward (u.path ++ path_by b.node h.name.ident.name)) h.parameters y)
 
   -- a heading stands among the types that it makes and those before
   pub head_stands : (u : Around) → K u → AllByRecursion (λ (k : Known). k.scope ≤ u.scope) u.known → (h : WrittenHeading) (forward : Bool) → AreGoodSections IsConstant unit shown out h.parameters.sections → AreSectionsOver IsConstant unit shown out h.parameters.sections → HeadStands (types_of (head_of u h forward).parameters ++ u.own) u.scope (head_of u h forward)

@@ -26,13 +26,13 @@ use Rattle.ob_rules.specs.declared.entity.Entity.{Entity}
 use Rattle.ob_rules.specs.declared.entity.Entity.TheVariants as entity
 use Rattle.ob_rules.specs.declared.entity.Known.{Known}
 use Rattle.ob_rules.specs.declared.broken.Rule.TheVariants as rule
-use Rattle.ob_rules.specs.Judged.{Judged, sound, wants, both, made, noted, ◌▷◌, each_sound}
+use Rattle.ob_rules.specs.Judged.{Judged, sound, wants, both, made, ◌▷◌, each_sound, behind_quiet}
 use Rattle.ob_rules.specs.Shapes.{Map, record_of, is_structured, is_pointer}
 use Rattle.ob_rules.specs.Names.{Around, map_of, find_name, entity_known, type_of_entity, unless_variable_is, unless_variable, type_in, type_behind, type_by, type_named, is_out}
 use Rattle.ob_rules.specs.Phrases.{Phrase}
 use Rattle.ob_rules.specs.Expressions.{phrase_of}
 use Rattle.ob_rules.specs.Types.{Typing, Written, typed_as, with_types, base_name, element_name, field_name, section_name, named_typing, array_length, fixed_array, array, first_of, base_of, base_if, fields_of, WrittenFields, first_name, names_behind, Fields, with_fields, fields_joined, field_lists, record_desc, record_with, pointer_to, base_judged, pointer_base, pointer_by, is_later, WrittenSection, WrittenParameters, Parameters, parameter_as, mode_of, declare_all, knows, parameters_of, with_made, sections, result_of, with_result, parameters_in, procedure_type, inner, node_rule, fields_rule, section_rule, parameters_rule, written, written_parameters}
-use Rattle.law_methods_described.proofs.Nodes.{Has, then_has, both_have, first_has, second_has, also_has, unless_has}
+use Rattle.law_methods_described.proofs.Nodes.{Has, then_has, both_have, first_has, second_has, also_has, unless_has, quiet_has}
 use Rattle.law_typing.specs.Makes.{IfThere}
 use Rattle.law_body_context.specs.Knows.{Stands, EntityStands}
 use Rattle.law_body_context.specs.Order.{IsFresh, IsBased, IsOver}
@@ -226,8 +226,8 @@ module _ (IsConstant : Value → Type 0) (unit : List ℕ) (shown : QName → Op
       let rest = (sections v name (i + length s.names) ss).found in
       let mine : Judged Parameters = made (parameters_of u (mode_of s.is_var) s.names) t in
       let c = is_some s.node.name in
-      then_has (λ (p : Parameters × Parameters). ParametersOver start p.0 × ParametersOver start p.1) (ParametersOver start) (both (noted n.notes mine) rest) _
-      (both_have (ParametersOver start) (ParametersOver start) (noted n.notes mine) rest (then_has (T start c) (ParametersOver start) t (λ x. sound (parameters_of u (mode_of s.is_var) s.names x)) (g.0 start u k (section_name name i) mark.Hidden true) (λ x h. h.made)) (sections_over ss g.1 start v (made_over start n.around t.node (all_known start s.names (mode_of s.is_var) t.node u k)) name (i + length s.names)))
+      then_has (λ (p : Parameters × Parameters). ParametersOver start p.0 × ParametersOver start p.1) (ParametersOver start) (both (behind_quiet n.notes mine) rest) _
+      (both_have (ParametersOver start) (ParametersOver start) (behind_quiet n.notes mine) rest (quiet_has (ParametersOver start) n.notes mine (then_has (T start c) (ParametersOver start) t (λ x. sound (parameters_of u (mode_of s.is_var) s.names x)) (g.0 start u k (section_name name i) mark.Hidden true) (λ x h. h.made))) (sections_over ss g.1 start v (made_over start n.around t.node (all_known start s.names (mode_of s.is_var) t.node u k)) name (i + length s.names)))
       (λ p h. all_both (IsOver (S start)) p.0.made p.1.made h.0 h.1)
 
   pub parameters_over : (start : List TypedType) (u : Around) → L start u → (name : List ℕ) (p : WrittenParameters) → AreSectionsOver p.sections → Has (ParametersOver start) (parameters_in u name p).found

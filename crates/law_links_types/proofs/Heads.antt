@@ -19,11 +19,11 @@ use Rattle.ob_rules.specs.declared.broken.Rule.TheVariants as rule
 use Rattle.ob_rules.specs.Judged.{broken_at, both}
 use Rattle.ob_rules.specs.Shapes.{Map, Member, AField, AMethod, member, pointed}
 use Rattle.ob_rules.specs.Names.{Around, map_of, type_named}
-use Rattle.ob_rules.specs.Types.{Parameters, written_parameters, is_module_level, marked, inner, with_types}
-use Rattle.ob_rules.specs.Headings.{heading_of, Head, Heads, BoundAs, Binding, is_own, if_own, own_record, received_record, silent_base, bound_to, owner_of, owner_if, bound_in, as_parameters, head_of, heading_parameters, knows_receiver, declared_head, knows_procedure, known_behind, name_twice, types_of, add_heading, counted, change_desc, changed_if, change_type, with_method, new_method, redefined, bind_method, bind_by, bind_one, bind_all, of_record, bind_records, reversed}
+use Rattle.ob_rules.specs.Types.{Parameters, written_parameters, is_module_level, marked, inner, with_types, parameters_in}
+use Rattle.ob_rules.specs.Headings.{heading_of, Head, Heads, BoundAs, Binding, is_own, if_own, own_record, received_record, silent_base, bound_to, owner_of, owner_if, bound_in, as_parameters, head_of, heading_parameters, knows_receiver, declared_head, knows_procedure, known_behind, name_twice, types_of, add_heading, counted, change_desc, changed_if, change_type, with_method, new_method, redefined, bind_method, bind_by, bind_one, bind_all, of_record, bind_records, reversed, forward_name, path_by, made_anew, are_there}
 use Rattle.ob_rules.specs.Declarations.{Written_procedure, headings_in_order, received_by, binding_at}
 use Rattle.law_links_types.specs.Told.{core}
-use Rattle.law_links_types.proofs.Setting.{Setting, HasType, Stands, Keeps, any_keeps, then_keeps, both_keep, made_keeps}
+use Rattle.law_links_types.proofs.Setting.{Setting, HasType, Stands, Keeps, any_keeps, then_keeps, both_keep, made_keeps, unless_keeps}
 use Rattle.law_links_types.proofs.Typings.{Have, AreMade, ParametersOk, parameters_good, typed_stands}
 use Rattle.law_links_types.proofs.Written.{written_parameters_good}
 use Rattle.law_lists.proofs.Lists.{Anything, IfThere, all_both, back_empty}
@@ -105,7 +105,8 @@ head_ok k u s h f g =
     let p = heading_parameters u w f b in
     let v = knows_receiver (inner u) w.receiver b.node in
     let n : Stands k v = receiver_stands k (inner u) (record { unit = s.unit; shown = s.shown; own = s.own; receiver = s.receiver }) w.receiver b.node in
-    let good : Keeps k (ParametersOk k) p.found = parameters_good k v n _ (written_parameters h.parameters) (written_parameters_good k h.parameters) in
+    let inside = parameters_in v (forward_name f (u.path ++ path_by b.node w.name.ident.name)) w.parameters in
+    let good : Keeps k (ParametersOk k) p.found = then_keeps k (ParametersOk k) (ParametersOk k) inside.found (made_anew u w.name.ident.«pos») (parameters_good k v n _ (written_parameters h.parameters) (written_parameters_good k h.parameters)) (λ q i. unless_keeps k (ParametersOk k) (are_there u q.made) rule.DeclaredTwice w.name.ident.«pos» q i) in
     record {
       bound = in_bound k b.node (if_owner_ok k u s w.receiver);
       types = as_ok k (both (both m b) p.found).node (both_keep k Anything (ParametersOk k) (both m b) p.found (any_keeps k (both m b)) good) g;

@@ -16,7 +16,7 @@ use Rattle.ob_types.specs.declared.desc.Field.{Field}
 use Rattle.ob_types.specs.declared.typed.TypedType.{TypedType}
 use Rattle.ob_rules.specs.declared.notes.Later.TheVariants as later
 use Rattle.ob_rules.specs.declared.broken.Rule.TheVariants as rule
-use Rattle.ob_rules.specs.Judged.{Judged, if_sound, paired, sound, both, each_sound, ◌▷◌}
+use Rattle.ob_rules.specs.Judged.{Judged, if_sound, paired, sound, both, each_sound, ◌▷◌, is_quiet, if_quiet}
 use Rattle.ob_rules.specs.Names.{Around, map_of, in_unit, type_named}
 use Rattle.ob_rules.specs.Phrases.{Phrase}
 use Rattle.ob_rules.specs.Shapes.{record_of, is_structured, is_pointer}
@@ -132,10 +132,11 @@ declared_stands : (k : Setting) (xs : List Ident) (u : Around) → Stands k u �
 declared_stands k [] u s m t = s
 declared_stands k (x ∷ xs) u s m t = declared_stands k xs (knows u x (parameter_as u m x t)) (record { unit = s.unit; shown = s.shown; own = s.own; receiver = s.receiver }) m t
 
-section_ok : (k : Setting) (u : Around) (m : Mode) (xs : List Ident) (o : Option Typing) (r : Option Parameters) → IfThere (TypingOk k) o → ((t : Typing) → o ≡ Some t → Have k t.made → IfThere (ParametersOk k) r) → IfThere (ParametersOk k) (if_sound (paired (if_sound o (λ t. sound (parameters_of u m xs t))).node r) (λ q. sound (parameters_joined q.0 q.1))).node
-section_ok k u m xs None r h g = tt
-section_ok k u m xs (Some t) None h g = tt
-section_ok k u m xs (Some t) (Some p) h g = λ i. let a = all_front (HasType k) t.made p.made i in all_both (λ (t : TypedType). TypeRecorded k.types k.unit t.desc) t.made p.made (h a) (g t refl a (all_back (HasType k) t.made p.made i))
+section_ok : (k : Setting) (u : Around) (m : Mode) (xs : List Ident) (quiet : Bool) (o : Option Typing) (r : Option Parameters) → IfThere (TypingOk k) o → ((t : Typing) → o ≡ Some t → Have k t.made → IfThere (ParametersOk k) r) → IfThere (ParametersOk k) (if_sound (paired (if_quiet quiet (if_sound o (λ t. sound (parameters_of u m xs t))).node) r) (λ q. sound (parameters_joined q.0 q.1))).node
+section_ok k u m xs false o r h g = tt
+section_ok k u m xs true None r h g = tt
+section_ok k u m xs true (Some t) None h g = tt
+section_ok k u m xs true (Some t) (Some p) h g = λ i. let a = all_front (HasType k) t.made p.made i in all_both (λ (t : TypedType). TypeRecorded k.types k.unit t.desc) t.made p.made (h a) (g t refl a (all_back (HasType k) t.made p.made i))
 
 made_stands : (k : Setting) (u : Around) → Stands k u → (o : Option Typing) (t : Typing) → o ≡ Some t → Have k t.made → Stands k (with_made u o)
 made_stands k u s None t e h = s
@@ -147,7 +148,7 @@ sections_good k (x ∷ xs) g u s name i =
     let t = x.node.typing u (section_name name i) mark.Hidden true in
     let n = declare_all u (mode_of x.is_var) t.node x.names in
     let v = with_made n.around t.node in
-    section_ok k u (mode_of x.is_var) x.names t.node (sections v name (i + length x.names) xs).found.node (g.0 u s (section_name name i) mark.Hidden true)
+    section_ok k u (mode_of x.is_var) x.names (is_quiet n.notes.broken) t.node (sections v name (i + length x.names) xs).found.node (g.0 u s (section_name name i) mark.Hidden true)
     (λ y e h. sections_good k xs g.1 v (made_stands k n.around (declared_stands k x.names u s (mode_of x.is_var) t.node) t.node y e h) name (i + length x.names))
 
 pub parameters_good : (k : Setting) (u : Around) → Stands k u → (name : List ℕ) (p : WrittenParameters) → AreGoodSections k p.sections → Keeps k (ParametersOk k) (parameters_in u name p).found

@@ -21,12 +21,12 @@ use Rattle.ob_rules.specs.declared.broken.Rule.TheVariants as rule
 use Rattle.ob_rules.specs.Judged.{broken_at, both}
 use Rattle.ob_rules.specs.Shapes.{Map, record_at, record_if, pointed, same_name}
 use Rattle.ob_rules.specs.Names.{Around, map_of, type_desc, own_desc, in_unit, out_string, type_named}
-use Rattle.ob_rules.specs.Types.{Parameters, is_module_level, marked, inner, with_types}
-use Rattle.ob_rules.specs.Headings.{WrittenHeading, Head, Heads, BoundAs, received_record, is_own, if_own, own_record, silent_base, bound_to, owner_of, owner_if, knows_receiver, bound_in, as_parameters, heading_parameters, head_of, entity_as, head_entity, declared_head, knows_procedure, known_behind, name_twice, types_of, add_heading, reversed}
+use Rattle.ob_rules.specs.Types.{Parameters, is_module_level, marked, inner, with_types, parameters_in}
+use Rattle.ob_rules.specs.Headings.{WrittenHeading, Head, Heads, BoundAs, received_record, is_own, if_own, own_record, silent_base, bound_to, owner_of, owner_if, knows_receiver, bound_in, as_parameters, heading_parameters, head_of, entity_as, head_entity, declared_head, knows_procedure, known_behind, name_twice, types_of, add_heading, reversed, forward_name, path_by, made_anew, are_there}
 use Rattle.ob_rules.specs.Declarations.{Written_procedure, headings_in_order, types_of_head}
 use Rattle.law_local_judged.specs.Agreement.{AreIn}
 use Rattle.law_local_uses.specs.Settled.{MeansIn}
-use Rattle.law_local_uses.proofs.Setting.{none, then_keeps, both_keep, made_keeps}
+use Rattle.law_local_uses.proofs.Setting.{none, then_keeps, both_keep, made_keeps, unless_keeps}
 use Rattle.law_local_uses.specs.Held.{IsThere}
 use Rattle.law_local_uses.proofs.Around.{Given, AreNamed, AreKnown, Fine, base, found_has, name_is}
 use Rattle.law_local_uses.proofs.Typings.{In, Holds, ParametersOk, GoodSections, type_held, more_types, marked_held, signature_ok, parameters_in_good, inner_fine}
@@ -152,7 +152,9 @@ head_good g u f own w good forward =
     let hb : Holds g (IfThere (BoundOk g)) b = owner_if_good g u f own w.receiver in
     let v = knows_receiver (inner u) w.receiver b.node in
     let k = parameters_in_good g w.parameters good v (receiver_fine g (inner u) (inner_fine g u f) w.receiver b.node hb.0) _ in
-    let all = both_keep (base g) (λ (p : Mark × Option BoundAs). Anything p.0 × IfThere (BoundOk g) p.1) (ParametersOk g) (both m b) s.found (both_keep (base g) Anything (IfThere (BoundOk g)) m b (marked_held g u false w.name) hb) k.found in
+    let inside = parameters_in v (forward_name forward (u.path ++ path_by b.node w.name.ident.name)) w.parameters in
+    let found : Holds g (ParametersOk g) s.found = then_keeps (base g) (ParametersOk g) (ParametersOk g) inside.found (made_anew u w.name.ident.«pos») k.found (λ q i. unless_keeps (base g) (ParametersOk g) (are_there u q.made) rule.DeclaredTwice w.name.ident.«pos» q i) in
+    let all = both_keep (base g) (λ (p : Mark × Option BoundAs). Anything p.0 × IfThere (BoundOk g) p.1) (ParametersOk g) (both m b) s.found (both_keep (base g) Anything (IfThere (BoundOk g)) m b (marked_held g u false w.name) hb) found in
     record {
       parameters = as_ok g (both (both m b) s.found).node all.0;
       bound = bound_in_ok g b.node hb.0;

@@ -23,7 +23,7 @@ use Rattle.ob_rules.specs.declared.meant.Chosen.{Chosen}
 use Rattle.ob_rules.specs.declared.meant.Meant.{Meant}
 use Rattle.ob_rules.specs.declared.meant.Meant.TheVariants as means
 use Rattle.ob_rules.specs.declared.broken.Rule.{Rule}
-use Rattle.ob_rules.specs.Judged.{Judged, Notes, joined, sound, if_sound, paired, both, made, each_sound, unless, wants, also, found_or, judge_later, noted, ◌▷◌}
+use Rattle.ob_rules.specs.Judged.{Judged, Notes, joined, sound, if_sound, paired, both, made, each_sound, unless, wants, also, found_or, judge_later, noted, ◌▷◌, is_quiet, if_quiet, behind_quiet}
 use Rattle.ob_rules.specs.Shapes.{Map}
 use Rattle.ob_rules.specs.Names.{Around}
 use Rattle.ob_rules.specs.Values.{tree}
@@ -172,6 +172,13 @@ also_keeps k Q false rule at j h = h
 
 pub noted_keeps : (k : Setting) {A : Type 0} (Q : A → Type 0) (n : Notes) (j : Judged A) → Said k n → Keeps k Q j → Keeps k Q (noted n j)
 noted_keeps k Q n j s h = (h.0, said_both k n j.notes s h.1)
+
+pub quiet_keeps : (k : Setting) {A : Type 0} (Q : A → Type 0) (n : Notes) (j : Judged A) → Said k n → Keeps k Q j → Keeps k Q (behind_quiet n j)
+quiet_keeps k Q n j s h = (by (is_quiet n.broken) j.node h.0, said_both k n j.notes s h.1)
+  where
+    by : (b : Bool) (o : Option A) → IfThere Q o → IfThere Q (if_quiet b o)
+    by true o i = i
+    by false o i = tt
 
 pub later_keeps : (k : Setting) {A : Type 0} (Q : A → Type 0) (ls : List Later) (j : Judged A) → Keeps k Q j → Keeps k Q (judge_later ls j)
 later_keeps k Q [] j h = h

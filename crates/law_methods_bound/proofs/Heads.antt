@@ -5,9 +5,9 @@ use Rattle.std.specs.List.{AllByRecursion}
 use Rattle.ob_tree.specs.declared.ident.Mark.{Mark}
 use Rattle.ob_rules.specs.Judged.{both}
 use Rattle.ob_rules.specs.Names.{Around}
-use Rattle.ob_rules.specs.Types.{Parameters, with_types, marked, inner}
-use Rattle.ob_rules.specs.Headings.{WrittenHeading, Head, BoundAs, Heads, path_by, bound_in, as_parameters, owner_if, heading_parameters, knows_receiver, head_of, declared_head, knows_procedure, known_behind, name_twice, types_of, add_heading}
-use Rattle.law_methods_described.proofs.Nodes.{second_has}
+use Rattle.ob_rules.specs.Types.{Parameters, with_types, marked, inner, parameters_in}
+use Rattle.ob_rules.specs.Headings.{WrittenHeading, Head, BoundAs, Heads, path_by, bound_in, as_parameters, owner_if, heading_parameters, knows_receiver, head_of, declared_head, knows_procedure, known_behind, name_twice, types_of, add_heading, forward_name}
+use Rattle.law_methods_described.proofs.Nodes.{second_has, anew_has}
 use Rattle.law_methods_bound.proofs.Typings.{IsRaw, AreRaw, AreGoodSections, MakeRaw, parameters_good}
 use Rattle.law_lists.proofs.Lists.{IfThere, all_both}
 
@@ -34,7 +34,7 @@ head_good u h forward g =
     let b = owner_if u h.receiver in
     let s = heading_parameters u h forward b in
     record {
-      parameters = as_good (both (both m b) s.found).node (second_has MakeRaw (both m b) s.found (parameters_good (knows_receiver (inner u) h.receiver b.node) _ h.parameters g));
+      parameters = as_good (both (both m b) s.found).node (second_has MakeRaw (both m b) s.found (anew_has MakeRaw u h.name.ident.«pos» (parameters_in (knows_receiver (inner u) h.receiver b.node) (forward_name forward (u.path ++ path_by b.node h.name.ident.name)) h.parameters) (parameters_good (knows_receiver (inner u) h.receiver b.node) _ h.parameters g)));
       named = λ c e. path_is u.path b.node h.name.ident.name c e;
     }
 

@@ -17,7 +17,7 @@ use Rattle.ob_types.specs.declared.desc.Desc.TheVariants as desc
 use Rattle.ob_types.specs.declared.typed.TypedType.{TypedType}
 use Rattle.ob_types.specs.declared.typed.TypedParameter.{TypedParameter}
 use Rattle.ob_rules.specs.declared.broken.Rule.TheVariants as rule
-use Rattle.ob_rules.specs.Judged.{Judged, sound, both, made, noted, ◌▷◌}
+use Rattle.ob_rules.specs.Judged.{Judged, sound, both, made, ◌▷◌, behind_quiet}
 use Rattle.ob_rules.specs.Names.{Around, map_of, type_named}
 use Rattle.ob_rules.specs.Phrases.{Phrase}
 use Rattle.ob_rules.specs.Expressions.{constant_value}
@@ -25,7 +25,7 @@ use Rattle.ob_rules.specs.Shapes.{Map, is_structured, is_pointer, is_open, is_re
 use Rattle.ob_rules.specs.Types.{Typing, Written, typed_as, with_types, base_name, element_name, field_name, section_name, named_typing, length_of, array_length, fixed_array, array, first_of, names_behind, WrittenFields, first_name, Fields, fields_of, with_fields, field_lists, record_with, record_desc, pointer_to, base_judged, pointer_base, pointer_by, Parameters, WrittenSection, WrittenParameters, mode_of, declare_all, parameters_of, parameters_joined, with_result, with_made, sections, result_of, parameters_in, inner, procedure_type}
 use Rattle.law_body_context.specs.Judged.{mode_of as mode_behind, AreOf}
 use Rattle.law_methods_bound.specs.Bound.{methods_of, HasElements}
-use Rattle.law_methods_described.proofs.Nodes.{Has, then_has, any_then, both_have, first_has, second_has, also_has, unless_has}
+use Rattle.law_methods_described.proofs.Nodes.{Has, then_has, any_then, both_have, first_has, second_has, also_has, unless_has, quiet_has}
 use Rattle.ob_rules.specs.Judged.{each_sound}
 use Rattle.law_lists.proofs.Lists.{all_both}
 
@@ -148,8 +148,8 @@ sections_good (s ∷ ss) g u name i =
     let v = with_made n.around t.node in
     let rest = (sections v name (i + length s.names) ss).found in
     let mine : Judged Parameters = made (parameters_of u (mode_of s.is_var) s.names) t in
-    then_has (λ (p : Parameters × Parameters). MakeRaw p.0 × MakeRaw p.1) MakeRaw (both (noted n.notes mine) rest) (λ q. sound (parameters_joined q.0 q.1))
-    (both_have MakeRaw MakeRaw (noted n.notes mine) rest (then_has MakesRaw MakeRaw t (λ x. sound (parameters_of u (mode_of s.is_var) s.names x)) (g.0 u (section_name name i) mark.Hidden true) (λ x h. (h, names_are u (mode_of s.is_var) x s.names))) (sections_good ss g.1 v name (i + length s.names)))
+    then_has (λ (p : Parameters × Parameters). MakeRaw p.0 × MakeRaw p.1) MakeRaw (both (behind_quiet n.notes mine) rest) (λ q. sound (parameters_joined q.0 q.1))
+    (both_have MakeRaw MakeRaw (behind_quiet n.notes mine) rest (quiet_has MakeRaw n.notes mine (then_has MakesRaw MakeRaw t (λ x. sound (parameters_of u (mode_of s.is_var) s.names x)) (g.0 u (section_name name i) mark.Hidden true) (λ x h. (h, names_are u (mode_of s.is_var) x s.names)))) (sections_good ss g.1 v name (i + length s.names)))
     (λ p h. (all_both IsRaw p.0.made p.1.made h.0.0 h.1.0, are_joined p.0.parameters p.1.parameters p.0.signature.params p.1.signature.params h.0.1 h.1.1))
 
 pub parameters_good : (u : Around) (name : List ℕ) (p : WrittenParameters) → AreGoodSections p.sections → Has MakeRaw (parameters_in u name p).found

@@ -15,10 +15,10 @@ use Rattle.ob_types.specs.Maps.{is_type}
 use Rattle.ob_rules.specs.Judged.{both}
 use Rattle.ob_rules.specs.Shapes.{Map, Member, AField, AMethod, member}
 use Rattle.ob_rules.specs.Names.{Around, map_of}
-use Rattle.ob_rules.specs.Types.{Parameters, with_types, mark_of, is_module_level, marked, inner}
-use Rattle.ob_rules.specs.Headings.{WrittenHeading, Head, BoundAs, Heads, Binding, mark_or_hidden, as_parameters, owner_if, heading_parameters, knows_receiver, head_of, declared_head, knows_procedure, known_behind, name_twice, types_of, add_heading, counted, change_desc, changed_if, change_type, with_method, new_method, redefined, bind_method, bind_by, bind_one, bind_all, of_record, bind_records, reversed, bindings}
+use Rattle.ob_rules.specs.Types.{Parameters, with_types, mark_of, is_module_level, marked, inner, parameters_in}
+use Rattle.ob_rules.specs.Headings.{WrittenHeading, Head, BoundAs, Heads, Binding, mark_or_hidden, as_parameters, owner_if, heading_parameters, knows_receiver, head_of, declared_head, knows_procedure, known_behind, name_twice, types_of, add_heading, counted, change_desc, changed_if, change_type, with_method, new_method, redefined, bind_method, bind_by, bind_one, bind_all, of_record, bind_records, reversed, bindings, forward_name, path_by}
 use Rattle.law_methods_described.specs.Described.{AreTypes, is_whole}
-use Rattle.law_methods_described.proofs.Nodes.{second_has}
+use Rattle.law_methods_described.proofs.Nodes.{second_has, anew_has}
 use Rattle.law_methods_described.proofs.Typings.{AreGoodSections, MakeTypes, parameters_good}
 use Rattle.law_lists.proofs.Lists.{IfThere, all_both}
 
@@ -54,7 +54,7 @@ head_good u h forward g =
     let b = owner_if u h.receiver in
     let s = heading_parameters u h forward b in (
       mark_good (is_module_level u) h.name.mark_pos h.name.mark,
-      as_good (both (both m b) s.found).node (second_has MakeTypes (both m b) s.found (parameters_good (knows_receiver (inner u) h.receiver b.node) _ h.parameters g)),
+      as_good (both (both m b) s.found).node (second_has MakeTypes (both m b) s.found (anew_has MakeTypes u h.name.ident.«pos» (parameters_in (knows_receiver (inner u) h.receiver b.node) (forward_name forward (u.path ++ path_by b.node h.name.ident.name)) h.parameters) (parameters_good (knows_receiver (inner u) h.receiver b.node) _ h.parameters g))),
     )
 
 pub types_good : (o : Option Parameters) → IfThere MakeTypes o → AreTypes (types_of o)

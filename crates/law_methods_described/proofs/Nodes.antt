@@ -3,7 +3,11 @@ use Rattle.std.proofs.Common.{Bool, true, false, List, [], ◌∷◌, Option, So
 use Rattle.ob_tree.specs.declared.pos.Pos.{Pos}
 use Rattle.ob_rules.specs.declared.notes.Later.{Later}
 use Rattle.ob_rules.specs.declared.broken.Rule.{Rule}
-use Rattle.ob_rules.specs.Judged.{Judged, if_sound, paired, both, unless, also, judge_later, ◌▷◌}
+use Rattle.ob_rules.specs.declared.broken.Rule.TheVariants as rules
+use Rattle.ob_rules.specs.Judged.{Judged, Notes, if_sound, paired, both, unless, also, is_quiet, if_quiet, behind_quiet, judge_later, ◌▷◌}
+use Rattle.ob_rules.specs.Names.{Around}
+use Rattle.ob_rules.specs.Types.{Parameters, Sections}
+use Rattle.ob_rules.specs.Headings.{are_there, made_anew, anew}
 use Rattle.law_lists.proofs.Lists.{IfThere}
 
 -- the node has it, where there is one
@@ -50,3 +54,15 @@ unless_has P false rule at x h = h
 pub later_has : {A : Type 0} (P : A → Type 0) (ls : List Later) (j : Judged A) → Has P j → Has P (judge_later ls j)
 later_has P [] j h = h
 later_has P (l ∷ ls) j h = later_has P ls j h
+
+-- where nothing is broken before it
+pub quiet_has : {A : Type 0} (P : A → Type 0) (n : Notes) (j : Judged A) → Has P j → Has P (behind_quiet n j)
+quiet_has P n j h = by (is_quiet n.broken) j.node h
+  where
+    by : (b : Bool) (o : Option A) → IfThere P o → IfThere P (if_quiet b o)
+    by true o k = k
+    by false o k = tt
+
+-- parameters whose types no other declaration has made
+pub anew_has : (P : Parameters → Type 0) (u : Around) (at : Pos) (s : Sections) → Has P s.found → Has P (anew u at s).found
+anew_has P u at s h = then_has P P s.found (made_anew u at) h (λ p k. unless_has P (are_there u p.made) rules.DeclaredTwice at p k)

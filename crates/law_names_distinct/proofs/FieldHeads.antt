@@ -14,10 +14,10 @@ use Rattle.ob_types.specs.declared.typed.TypedType.{TypedType}
 use Rattle.ob_rules.specs.Judged.{both}
 use Rattle.ob_rules.specs.Shapes.{Map, Member, AField, AMethod, member}
 use Rattle.ob_rules.specs.Names.{Around, map_of}
-use Rattle.ob_rules.specs.Types.{Parameters, with_types, mark_of, is_module_level, marked, inner}
-use Rattle.ob_rules.specs.Headings.{WrittenHeading, Head, BoundAs, Heads, Binding, mark_or_hidden, as_parameters, owner_if, heading_parameters, knows_receiver, head_of, declared_head, knows_procedure, known_behind, name_twice, types_of, add_heading, counted, change_desc, changed_if, change_type, with_method, new_method, redefined, bind_method, bind_by, bind_one, bind_all, of_record, bind_records, reversed, bindings}
+use Rattle.ob_rules.specs.Types.{Parameters, with_types, mark_of, is_module_level, marked, inner, parameters_in}
+use Rattle.ob_rules.specs.Headings.{WrittenHeading, Head, BoundAs, Heads, Binding, mark_or_hidden, as_parameters, owner_if, heading_parameters, knows_receiver, head_of, declared_head, knows_procedure, known_behind, name_twice, types_of, add_heading, counted, change_desc, changed_if, change_type, with_method, new_method, redefined, bind_method, bind_by, bind_one, bind_all, of_record, bind_records, reversed, bindings, forward_name, path_by}
 use Rattle.law_names_distinct.specs.Fields.{FieldsDiffer, AreApart}
-use Rattle.law_methods_described.proofs.Nodes.{second_has}
+use Rattle.law_methods_described.proofs.Nodes.{second_has, anew_has}
 use Rattle.law_names_distinct.proofs.FieldTypings.{AreGoodSections, MakeApart, parameters_good}
 use Rattle.law_lists.proofs.Lists.{IfThere, all_both}
 
@@ -44,7 +44,7 @@ head_good u h forward g =
     let m = marked u false h.name in
     let b = owner_if u h.receiver in
     let s = heading_parameters u h forward b in
-    as_good (both (both m b) s.found).node (second_has MakeApart (both m b) s.found (parameters_good (knows_receiver (inner u) h.receiver b.node) _ h.parameters g))
+    as_good (both (both m b) s.found).node (second_has MakeApart (both m b) s.found (anew_has MakeApart u h.name.ident.«pos» (parameters_in (knows_receiver (inner u) h.receiver b.node) (forward_name forward (u.path ++ path_by b.node h.name.ident.name)) h.parameters) (parameters_good (knows_receiver (inner u) h.receiver b.node) _ h.parameters g)))
 
 pub types_good : (o : Option Parameters) → IfThere MakeApart o → AreApart (types_of o)
 types_good None h = tt

@@ -13,13 +13,13 @@ use Rattle.ob_types.specs.declared.types.TypeRef.TheVariants as ref
 use Rattle.ob_types.specs.declared.desc.Field.{Field}
 use Rattle.ob_types.specs.declared.desc.Desc.TheVariants as desc
 use Rattle.ob_rules.specs.declared.broken.Rule.TheVariants as rule
-use Rattle.ob_rules.specs.Judged.{Judged, sound, silent, both, made, noted, unless, ◌▷◌}
+use Rattle.ob_rules.specs.Judged.{Judged, sound, silent, both, made, unless, ◌▷◌, behind_quiet}
 use Rattle.ob_rules.specs.Names.{Around, map_of, in_unit, is_among, type_named}
 use Rattle.ob_rules.specs.Phrases.{Phrase}
 use Rattle.ob_rules.specs.Shapes.{is_structured, is_pointer}
 use Rattle.ob_rules.specs.Types.{Typing, Written, typed_as, with_types, base_name, element_name, field_name, section_name, marked, member_in, record_in, inherits, field_declared, field_if, name_in, fields_joined, named_typing, array_length, fixed_array, array, first_of, names_behind, WrittenFields, first_name, Fields, fields_of, with_fields, field_lists, record_with, record_desc, pointer_to, base_judged, pointer_base, pointer_by, Parameters, WrittenSection, WrittenParameters, mode_of, declare_all, parameters_of, with_made, sections, result_of, parameters_in, inner, procedure_type}
 use Rattle.law_names_distinct.specs.Fields.{FieldsDiffer, AreApart}
-use Rattle.law_methods_described.proofs.Nodes.{Has, then_has, any_then, both_have, first_has, second_has, also_has, unless_has, later_has}
+use Rattle.law_methods_described.proofs.Nodes.{Has, then_has, any_then, both_have, first_has, second_has, also_has, unless_has, later_has, quiet_has}
 use Rattle.law_names_distinct.specs.Distinct.{AreDistinct}
 use Rattle.law_names_distinct.proofs.Fresh.{distinct_both}
 use Rattle.law_names_distinct.proofs.Typings.{behind_has, not_behind}
@@ -159,8 +159,8 @@ sections_good (s ∷ ss) g u name i =
     let v = with_made n.around t.node in
     let rest = (sections v name (i + length s.names) ss).found in
     let mine : Judged Parameters = made (parameters_of u (mode_of s.is_var) s.names) t in
-    then_has (λ (p : Parameters × Parameters). MakeApart p.0 × MakeApart p.1) MakeApart (both (noted n.notes mine) rest) _
-    (both_have MakeApart MakeApart (noted n.notes mine) rest (then_has MakesApart MakeApart t (λ x. sound (parameters_of u (mode_of s.is_var) s.names x)) (g.0 u (section_name name i) mark.Hidden true) (λ x h. h)) (sections_good ss g.1 v name (i + length s.names)))
+    then_has (λ (p : Parameters × Parameters). MakeApart p.0 × MakeApart p.1) MakeApart (both (behind_quiet n.notes mine) rest) _
+    (both_have MakeApart MakeApart (behind_quiet n.notes mine) rest (quiet_has MakeApart n.notes mine (then_has MakesApart MakeApart t (λ x. sound (parameters_of u (mode_of s.is_var) s.names x)) (g.0 u (section_name name i) mark.Hidden true) (λ x h. h))) (sections_good ss g.1 v name (i + length s.names)))
     (λ p h. all_both (λ t. FieldsDiffer t.desc) p.0.made p.1.made h.0 h.1)
 
 pub parameters_good : (u : Around) (name : List ℕ) (p : WrittenParameters) → AreGoodSections p.sections → Has MakeApart (parameters_in u name p).found

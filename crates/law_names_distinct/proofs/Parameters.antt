@@ -1,4 +1,5 @@
 -- The parameters of a heading have different names, which are known inside.
+use Rattle.law_methods_described.proofs.Nodes.{quiet_has}
 use Rattle.std.proofs.Common.{◌≡◌, ◌≢◌, ℕ, suc, ◌+◌, Bool, true, false, List, [], ◌∷◌, ◌++◌, length, map, Option, Some, None, refl, sym, ap, subst, ◌∙◌, arith}
 use Rattle.std.proofs.lemmas.Bool.{eq-eqb, eqb-true}
 use Rattle.std.specs.Prelude.{nat_eq, nat_lt, bytes_eq, ◌&&◌, cond, is_some}
@@ -17,15 +18,15 @@ use Rattle.ob_types.specs.declared.typed.TypedParameter.{TypedParameter}
 use Rattle.ob_rules.specs.declared.entity.Entity.{Entity}
 use Rattle.ob_rules.specs.declared.entity.Entity.TheVariants as entity
 use Rattle.ob_rules.specs.declared.entity.Known.{Known}
-use Rattle.ob_rules.specs.Judged.{Judged, sound, both, made, noted, ◌▷◌}
+use Rattle.ob_rules.specs.Judged.{Judged, sound, both, made, ◌▷◌, behind_quiet}
 use Rattle.ob_rules.specs.Shapes.{passing_of}
 use Rattle.ob_rules.specs.Names.{Around, map_of, in_scope, found_in_scope}
 use Rattle.ob_rules.specs.Types.{Typing, section_name, Parameters, WrittenSection, WrittenParameters, mode_of, twice_if, new_name, parameter_as, knows, Named, declare_all, parameters_of, parameters_joined, with_made, sections, result_of, with_result, parameters_in, inner, marked, with_types}
-use Rattle.ob_rules.specs.Headings.{WrittenHeading, Head, BoundAs, bound_in, of_scope, as_parameters, owner_if, self_of, self_by, self_parameter, knows_receiver, forward_name, path_by, heading_parameters, head_of}
+use Rattle.ob_rules.specs.Headings.{WrittenHeading, Head, BoundAs, bound_in, of_scope, as_parameters, owner_if, self_of, self_by, self_parameter, knows_receiver, forward_name, path_by, heading_parameters, head_of, anew}
 use Rattle.ob_rules.specs.Declarations.{self_parameters}
 use Rattle.law_names_distinct.specs.Distinct.{AreDistinct}
 use Rattle.law_names_distinct.proofs.Fresh.{distinct_both, not_before}
-use Rattle.law_names_distinct.proofs.Quiet.{Quiet, any_quiet, then_quiet, first_quiet, both_quiet}
+use Rattle.law_names_distinct.proofs.Quiet.{Quiet, any_quiet, then_quiet, first_quiet, both_quiet, anew_quiet}
 use Rattle.law_lists.proofs.Lists.{Anything, IfThere, all_both, all_from, back_empty, bytes_itself, front_empty}
 
 -- a name of that scope is known
@@ -140,12 +141,12 @@ sections_names n name (w ∷ ss) i u s =
     let own : List (List ℕ) = map (λ (x : Ident). x.name) w.names in
     let f : Parameters × Parameters → Judged Parameters = λ q. sound (parameters_joined q.0 q.1) in
     λ e.
-    let quiet = first_quiet (both (noted d.notes mine) rest.found) f e in
+    let quiet = first_quiet (both (behind_quiet d.notes mine) rest.found) f e in
     let here = front_empty (d.notes.broken ++ mine.notes.broken) rest.found.notes.broken quiet in
     let first = k.names (front_empty d.notes.broken mine.notes.broken here) in
-    then_quiet (λ (p : Parameters × Parameters). (parameter_names p.0 ≡ own) × AreNew n v.known rest.known (parameter_names p.1)) (λ p. AreNew n u.known rest.known (parameter_names p)) (both (noted d.notes mine) rest.found) f
-    (both_quiet (λ (p : Parameters). parameter_names p ≡ own) (λ p. AreNew n v.known rest.known (parameter_names p)) (noted d.notes mine) rest.found
-    (λ b. then_quiet Anything (λ (p : Parameters). parameter_names p ≡ own) t (λ x. sound (parameters_of u (mode_of w.is_var) w.names x)) (any_quiet t) (λ q h. λ b. names_of (parameter_of u (mode_of w.is_var) q) (λ y. refl) w.names) (back_empty d.notes.broken mine.notes.broken b))
+    then_quiet (λ (p : Parameters × Parameters). (parameter_names p.0 ≡ own) × AreNew n v.known rest.known (parameter_names p.1)) (λ p. AreNew n u.known rest.known (parameter_names p)) (both (behind_quiet d.notes mine) rest.found) f
+    (both_quiet (λ (p : Parameters). parameter_names p ≡ own) (λ p. AreNew n v.known rest.known (parameter_names p)) (behind_quiet d.notes mine) rest.found
+    (λ b. quiet_has (λ (p : Parameters). parameter_names p ≡ own) d.notes mine (then_quiet Anything (λ (p : Parameters). parameter_names p ≡ own) t (λ x. sound (parameters_of u (mode_of w.is_var) w.names x)) (any_quiet t) (λ q h. λ b. names_of (parameter_of u (mode_of w.is_var) q) (λ y. refl) w.names) (back_empty d.notes.broken mine.notes.broken b)))
     (sections_names n name ss (i + length w.names) v vs))
     (λ p h. λ b.
     subst (AreNew n u.known rest.known) (sym (names_joined p.0.parameters p.1.parameters ∙ ap (λ ns. ns ++ parameter_names p.1) h.0))
@@ -267,6 +268,6 @@ module _ (u : Around) (h : WrittenHeading) (forward : Bool) where
   pub head_good : GoodHead (suc u.scope) head
   head_good e =
       let m = marked u false h.name in
-      let s = (parameters_in start name h.parameters).found in
+      let s = (anew u h.name.ident.«pos» (parameters_in start name h.parameters)).found in
       finish head.parameters (there_parameters (both (both m bound) s).node
-      (both_quiet Anything (λ p. AreNew (suc u.scope) start.known last (parameter_names p)) (both m bound) s (any_quiet (both m bound)) (parameters_names (suc u.scope) start (receiver_scope (inner u) h.receiver bound.node) name h.parameters) e))
+      (both_quiet Anything (λ p. AreNew (suc u.scope) start.known last (parameter_names p)) (both m bound) s (any_quiet (both m bound)) (anew_quiet (λ p. AreNew (suc u.scope) start.known last (parameter_names p)) u h.name.ident.«pos» (parameters_in start name h.parameters) (parameters_names (suc u.scope) start (receiver_scope (inner u) h.receiver bound.node) name h.parameters)) e))

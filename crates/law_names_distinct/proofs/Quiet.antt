@@ -1,4 +1,8 @@
 -- What holds of what is judged, where nothing is broken in it.
+use Rattle.ob_rules.specs.declared.broken.Rule.TheVariants as rules
+use Rattle.ob_rules.specs.Names.{Around}
+use Rattle.ob_rules.specs.Headings.{are_there, made_anew, anew}
+use Rattle.ob_rules.specs.Types.{Parameters, Sections}
 use Rattle.std.proofs.Common.{◌≡◌, Bool, true, false, List, [], ◌∷◌, Option, Some, None}
 use Rattle.ob_tree.specs.declared.pos.Pos.{Pos}
 use Rattle.ob_rules.specs.declared.notes.Later.{Later}
@@ -60,3 +64,7 @@ later_broken (l ∷ ls) j e = later_broken ls j e
 pub and_there : {A : Type 0} (P : A → Type 0) (Q : Type 0) (o : Option A) → IfThere P o → Q → IfThere (λ x. P x × Q) o
 and_there P Q None h q = tt
 and_there P Q (Some x) h q = (h, q)
+
+-- parameters whose types no other declaration has made
+pub anew_quiet : (P : Parameters → Type 0) (u : Around) (at : Pos) (s : Sections) → Quiet P s.found → Quiet P (anew u at s).found
+anew_quiet P u at s h = then_quiet P P s.found (made_anew u at) h (λ p k. unless_quiet P (are_there u p.made) rules.DeclaredTwice at p k)

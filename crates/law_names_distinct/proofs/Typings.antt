@@ -1,4 +1,5 @@
 -- The types that a written type makes have different names, which begin with its own.
+use Rattle.law_methods_described.proofs.Nodes.{quiet_has}
 use Rattle.std.proofs.Common.{◌≡◌, ◌≢◌, ℕ, suc, ◌+◌, ◌<◌, ◌≤◌, ◌^◌, Bool, true, false, List, [], ◌∷◌, ◌++◌, length, Option, Some, None, refl, sym, ap, subst, ◌∙◌, arith, append_assoc}
 use Rattle.std.specs.Prelude.{zero, ◌==◌, ◌||◌, bytes_eq, is_some, is_none}
 use Rattle.std.specs.Fmt.{decimal}
@@ -16,7 +17,7 @@ use Rattle.ob_types.specs.declared.desc.Desc.TheVariants as desc
 use Rattle.ob_types.specs.declared.desc.Field.{Field}
 use Rattle.ob_types.specs.declared.typed.TypedType.{TypedType}
 use Rattle.ob_rules.specs.declared.broken.Rule.TheVariants as rule
-use Rattle.ob_rules.specs.Judged.{Judged, sound, silent, both, made, noted, each_sound, unless, if_sound, ◌▷◌}
+use Rattle.ob_rules.specs.Judged.{Judged, sound, silent, both, made, each_sound, unless, if_sound, ◌▷◌, behind_quiet}
 use Rattle.ob_rules.specs.Names.{Around, map_of, in_unit, is_among, type_named}
 use Rattle.ob_rules.specs.Phrases.{Phrase}
 use Rattle.ob_rules.specs.Shapes.{is_structured, is_pointer}
@@ -260,9 +261,9 @@ sections_good (s ∷ ss) g u name i few =
     let rest = (sections v name k ss).found in
     let mine : Judged Parameters = made (parameters_of u (mode_of s.is_var) s.names) t in
     let f : Parameters × Parameters → Judged Parameters = λ q. sound (parameters_joined q.0 q.1) in
-    then_quiet (λ (p : Parameters × Parameters). AreIn (section_name name i) p.0.made × ParametersIn name k p.1) (ParametersIn name i) (both (noted n.notes mine) rest) f
-    (both_quiet (λ (p : Parameters). AreIn (section_name name i) p.made) (ParametersIn name k) (noted n.notes mine) rest
-    (λ e. then_quiet (IsIn (section_name name i)) (λ (p : Parameters). AreIn (section_name name i) p.made) t (λ x. sound (parameters_of u (mode_of s.is_var) s.names x)) (g.0.1 u (section_name name i) mark.Hidden true) (λ x h. λ e. h) (back_empty n.notes.broken mine.notes.broken e))
+    then_quiet (λ (p : Parameters × Parameters). AreIn (section_name name i) p.0.made × ParametersIn name k p.1) (ParametersIn name i) (both (behind_quiet n.notes mine) rest) f
+    (both_quiet (λ (p : Parameters). AreIn (section_name name i) p.made) (ParametersIn name k) (behind_quiet n.notes mine) rest
+    (λ e. quiet_has (λ (p : Parameters). AreIn (section_name name i) p.made) n.notes mine (then_quiet (IsIn (section_name name i)) (λ (p : Parameters). AreIn (section_name name i) p.made) t (λ x. sound (parameters_of u (mode_of s.is_var) s.names x)) (g.0.1 u (section_name name i) mark.Hidden true) (λ x h. λ e. h) (back_empty n.notes.broken mine.notes.broken e)))
     (sections_good ss g.1 v name k (omega (arith, few))))
     (λ p h. λ e. let own = behind_mark name (decimal i) 40 p.0.made h.0.parts in record {
       parts = all_both (λ t. IsOfSection name i t.name) p.0.made p.1.made

@@ -22,7 +22,7 @@ use Rattle.ob_rules.specs.declared.entity.Known.{Known}
 use Rattle.ob_rules.specs.declared.broken.Broken.{Broken}
 use Rattle.ob_rules.specs.declared.values.Valued.{Valued}
 use Rattle.ob_rules.specs.declared.broken.Rule.TheVariants as rule
-use Rattle.ob_rules.specs.Judged.{Judged, if_sound, paired, unless, sound, both, made, noted, each_sound, is_quiet, ◌▷◌}
+use Rattle.ob_rules.specs.Judged.{Judged, if_sound, paired, unless, sound, both, made, each_sound, is_quiet, ◌▷◌, if_quiet, behind_quiet}
 use Rattle.ob_rules.specs.Names.{Around, map_of, own_desc, type_named, in_unit, is_among, is_declared}
 use Rattle.ob_rules.specs.Values.{constant_in}
 use Rattle.ob_rules.specs.Expressions.{constant_of, constant_if, constant_value}
@@ -239,6 +239,10 @@ section_joined u m xs None rest h k = absurd h
 section_joined u m xs (Some t) None h k = absurd k
 section_joined u m xs (Some t) (Some p) h k = points_behind u t.made p.made h k
 
+quiet_is : (bs : List Broken) → bs ≡ [] → is_quiet bs ≡ true
+quiet_is [] e = refl
+quiet_is (b ∷ bs) e = absurd cc
+
 sections_well : (ss : List WrittenSection) → AreWellSections ss → (u : Around) (name : List ℕ) (i : ℕ) → AreKnown u.known → SpeakSections u (sections u name i ss)
 sections_well [] g u name i k = λ e. (tt, k)
 sections_well (s ∷ ss) g u name i k = λ e.
@@ -247,13 +251,14 @@ sections_well (s ∷ ss) g u name i k = λ e.
     let n = declare_all u M t.node s.names in
     let v = with_made n.around t.node in
     let rest = sections v name (i + length s.names) ss in
-    let mine = noted n.notes (made (parameters_of u M s.names) t) in
+    let mine = behind_quiet n.notes (made (parameters_of u M s.names) t) in
     let two : mine.notes.broken ++ rest.found.notes.broken ≡ [] = front_empty (mine.notes.broken ++ rest.found.notes.broken) _ e in
     let one : t.notes.broken ≡ [] = front_empty t.notes.broken _ (back_empty n.notes.broken (made (parameters_of u M s.names) t).notes.broken (front_empty mine.notes.broken rest.found.notes.broken two)) in
     let h : Has (λ t. Points u t.made) t.node = made_only u (section_name name i) s.node.name t (g.0 u (section_name name i) mark.Hidden true k) one in
     let r = sections_well ss g.1 v name (i + length s.names) (with_made_known n.around t.node (declare_all_known s.names u M t.node h k)) (back_empty mine.notes.broken rest.found.notes.broken two) in
     let q : Has (λ p. Points (with_made u t.node) p.made) rest.found.node = moved u n.around t.node rest.found.node (declare_all_is s.names u M t.node) r.0 in
-    (section_joined u M s.names t.node rest.found.node h q, r.1)
+    let quiet : is_quiet n.notes.broken ≡ true = quiet_is n.notes.broken (front_empty n.notes.broken (made (parameters_of u M s.names) t).notes.broken (front_empty mine.notes.broken rest.found.notes.broken two)) in
+    (subst (λ b. Has (λ p. Points u p.made) (if_sound (paired (if_quiet b (made (parameters_of u M s.names) t).node) rest.found.node) (λ q. sound (parameters_joined q.0 q.1))).node) (sym quiet) (section_joined u M s.names t.node rest.found.node h q), r.1)
   where
     same : (u : Around) (ks : List Known) (own : List TypedType) → AreAlike (record u { known = ks; own = own }) (record u { own = own })
     same u ks own = record { unit = refl; shown = refl; own = refl; later_types = refl; path = refl }

@@ -21,11 +21,11 @@ use Rattle.ob_rules.specs.Judged.{sound, if_sound, paired, both}
 use Rattle.ob_rules.specs.Shapes.{Map, same_name, record_at, record_of, record_if, pointed}
 use Rattle.ob_rules.specs.Names.{Around, own_desc, out_string, type_desc, map_of, type_named}
 use Rattle.ob_rules.specs.Types.{Parameters, marked, nothing, is_module_level, parameters_in, inner}
-use Rattle.ob_rules.specs.Headings.{WrittenHeading, Head, BoundAs, received_record, is_own, if_own, own_record, silent_base, bound_to, owner_of, owner_if, bound_in, path_by, forward_name, as_parameters, knows_receiver, head_of}
+use Rattle.ob_rules.specs.Headings.{WrittenHeading, Head, BoundAs, received_record, is_own, if_own, own_record, silent_base, bound_to, owner_of, owner_if, bound_in, path_by, forward_name, as_parameters, knows_receiver, head_of, heading_parameters, anew}
 use Rattle.ob_rules.specs.Declarations.{Written_procedure, Declaration, Plain, Procedure, procedure_of, decl_rule, declaration}
 use Rattle.law_names_distinct.specs.Parts.{IsWord, IsInScope}
 use Rattle.law_names_distinct.specs.Named.{is_word, all_true, parameters_named, decl_layer, decl_named}
-use Rattle.law_names_distinct.proofs.Quiet.{any_quiet, both_quiet}
+use Rattle.law_names_distinct.proofs.Quiet.{any_quiet, both_quiet, anew_quiet}
 use Rattle.law_names_distinct.proofs.Typings.{IsOfSection, ParametersIn}
 use Rattle.law_names_distinct.proofs.Written.{words_are}
 use Rattle.law_names_types.specs.Nested.{AreNested}
@@ -239,7 +239,7 @@ module _ (w : Around) (h : WrittenHeading) (forward : Bool) where
 
   pub head_sound : (p : Parameters) → head.parameters ≡ Some p → IsSound w head head.bound
   head_sound p e =
-      let k = there_by (marked w false h.name).node node (parameters_in (knows_receiver (inner w) h.receiver node) (forward_name forward (w.path ++ path_by node h.name.ident.name)) h.parameters).found.node p e in
+      let k = there_by (marked w false h.name).node node (heading_parameters w h forward (owner_if w h.receiver)).found.node p e in
       subst (IsSound w head) (ap bound_in (sym k.1)) (sound_by k.0 k.1)
 
   in_parameters : (name : List ℕ) (o : Option ((Mark × Option BoundAs) × Parameters)) → IfThere (λ (q : (Mark × Option BoundAs) × Parameters). Anything q.0 × (AllByRecursion (λ t. IsOfSection name 1 t.name) q.1.made × AreNested q.1.made q.1.made)) o → IfThere (λ (p : Parameters). AreNested p.made p.made) (as_parameters o)
@@ -252,9 +252,9 @@ module _ (w : Around) (h : WrittenHeading) (forward : Bool) where
       let b = owner_if w h.receiver in
       let name = forward_name forward (w.path ++ path_by b.node h.name.ident.name) in
       let start = knows_receiver (inner w) h.receiver b.node in
-      let s = (parameters_in start name h.parameters).found in
+      let s = (anew w h.name.ident.«pos» (parameters_in start name h.parameters)).found in
       in_parameters name (both (both m b) s).node
-      (both_quiet Anything (λ (p : Parameters). AllByRecursion (λ t. IsOfSection name 1 t.name) p.made × AreNested p.made p.made) (both m b) s (any_quiet (both m b)) (parameters_nested start name h.parameters well.parameters.nested well.parameters.good well.parameters.few) e)
+      (both_quiet Anything (λ (p : Parameters). AllByRecursion (λ t. IsOfSection name 1 t.name) p.made × AreNested p.made p.made) (both m b) s (any_quiet (both m b)) (anew_quiet (λ (p : Parameters). AllByRecursion (λ t. IsOfSection name 1 t.name) p.made × AreNested p.made p.made) w h.name.ident.«pos» (parameters_in start name h.parameters) (parameters_nested start name h.parameters well.parameters.nested well.parameters.good well.parameters.few)) e)
 
   pub head_parameters : IsWellWritten h → head.notes.broken ≡ [] → IfThere (ParametersIn (forward_name forward head.path) 1) head.parameters
   head_parameters well e = head_types w h forward well.parameters.good well.parameters.few e

@@ -1,4 +1,5 @@
 -- What a written type makes: behind a stop behind a record's name stand the types of its fields.
+use Rattle.law_methods_described.proofs.Nodes.{quiet_has}
 use Rattle.std.proofs.Common.{◌≡◌, ℕ, ◌+◌, ◌≤◌, ◌<◌, ◌^◌, Bool, true, false, List, [], ◌∷◌, ◌++◌, length, Option, Some, None, refl, sym, ap, ◌∙◌, subst, inl, inr, arith}
 use Rattle.std.specs.Prelude.{◌||◌, is_none, is_some, bytes_eq, decimal}
 use Rattle.std.specs.List.{AllByRecursion}
@@ -16,7 +17,7 @@ use Rattle.ob_types.specs.declared.desc.Desc.TheVariants as desc
 use Rattle.ob_types.specs.declared.desc.Field.{Field}
 use Rattle.ob_types.specs.declared.typed.TypedType.{TypedType}
 use Rattle.ob_rules.specs.declared.broken.Rule.TheVariants as rule
-use Rattle.ob_rules.specs.Judged.{Judged, sound, silent, unless, both, each_sound, made, noted, ◌▷◌}
+use Rattle.ob_rules.specs.Judged.{Judged, sound, silent, unless, both, each_sound, made, ◌▷◌, behind_quiet}
 use Rattle.ob_rules.specs.Shapes.{is_structured, is_pointer}
 use Rattle.ob_rules.specs.Names.{Around, map_of, in_unit, type_named, is_among}
 use Rattle.ob_rules.specs.Phrases.{Phrase}
@@ -114,9 +115,9 @@ sections_nested (s ∷ ss) n g u name i few =
     let rest = (sections v name k ss).found in
     let mine : Judged Parameters = made (parameters_of u (mode_of s.is_var) s.names) t in
     let f : Parameters × Parameters → Judged Parameters = λ q. sound (parameters_joined q.0 q.1) in
-    then_quiet (λ (p : Parameters × Parameters). (AreIn (section_name name i) p.0.made × AreNested p.0.made p.0.made) × ParametersNested name k p.1) (ParametersNested name i) (both (noted d.notes mine) rest) f
-    (both_quiet (λ (p : Parameters). AreIn (section_name name i) p.made × AreNested p.made p.made) (ParametersNested name k) (noted d.notes mine) rest
-    (λ e. then_quiet (Named (section_name name i)) (λ (p : Parameters). AreIn (section_name name i) p.made × AreNested p.made p.made) t (λ x. sound (parameters_of u (mode_of s.is_var) s.names x)) (named_quiet s.node n.0 u (section_name name i) mark.Hidden true) (λ x h. λ e. h) (back_empty d.notes.broken mine.notes.broken e))
+    then_quiet (λ (p : Parameters × Parameters). (AreIn (section_name name i) p.0.made × AreNested p.0.made p.0.made) × ParametersNested name k p.1) (ParametersNested name i) (both (behind_quiet d.notes mine) rest) f
+    (both_quiet (λ (p : Parameters). AreIn (section_name name i) p.made × AreNested p.made p.made) (ParametersNested name k) (behind_quiet d.notes mine) rest
+    (λ e. quiet_has (λ (p : Parameters). AreIn (section_name name i) p.made × AreNested p.made p.made) d.notes mine (then_quiet (Named (section_name name i)) (λ (p : Parameters). AreIn (section_name name i) p.made × AreNested p.made p.made) t (λ x. sound (parameters_of u (mode_of s.is_var) s.names x)) (named_quiet s.node n.0 u (section_name name i) mark.Hidden true) (λ x h. λ e. h) (back_empty d.notes.broken mine.notes.broken e)))
     (sections_nested ss n.1 g.1 v name k (omega (arith, few))))
     (λ p h. λ e.
     let own = behind_mark name (decimal i) 40 p.0.made h.0.0.parts in

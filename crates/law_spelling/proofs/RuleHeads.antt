@@ -25,10 +25,10 @@ use Rattle.ob_rules.specs.declared.entity.Entity.{Entity}
 use Rattle.ob_rules.specs.Judged.{sound, both}
 use Rattle.ob_rules.specs.Shapes.{Map, Member, AField, AMethod, member, record_at, pointed, record_if, same_name}
 use Rattle.ob_rules.specs.Names.{Around, own_desc, type_desc, map_of, in_unit, type_named, out_string}
-use Rattle.ob_rules.specs.Types.{Parameters, with_types, is_module_level, marked, inner, knows}
+use Rattle.ob_rules.specs.Types.{Parameters, with_types, is_module_level, marked, inner, knows, parameters_in}
 use Rattle.ob_rules.specs.Headings.{BoundAs, received_record, is_own, if_own, own_record, bound_to, owner_of, owner_if, knows_receiver, WrittenHeading, Head, path_by, forward_name, bound_in, as_parameters, heading_parameters, head_of, entity_as, head_entity, declared_head, knows_procedure, known_behind, Heads, name_twice, types_of, add_heading, counts, counted, signature_if, Binding, signature_or_none, exported_mark, new_method, with_method, change_desc, changed_if, change_type, redefined, bind_method, bind_by, bind_one, bind_all, of_record, bind_records, reversed, bindings}
 use Rattle.law_methods_described.specs.Described.{is_whole}
-use Rattle.law_methods_described.proofs.Nodes.{Has, then_has, second_has}
+use Rattle.law_methods_described.proofs.Nodes.{Has, then_has, second_has, anew_has}
 use Rattle.law_spelling.specs.Trees.{IsNamed, MethodIsSpelled, RecordIsSpelled}
 use Rattle.law_spelling.specs.Raw.{is_named}
 use Rattle.law_spelling.specs.Ruled.{TypeNames, TypeOk, EntityOk, KnownOk, AroundOk}
@@ -183,7 +183,7 @@ head_ok u g h forward k =
       name = k.name;
       path = p;
       bound = bound_ok b.node c;
-      parameters = as_ok (both (both m b) s.found).node (second_has ParametersOk (both m b) s.found t.found);
+      parameters = as_ok (both (both m b) s.found).node (second_has ParametersOk (both m b) s.found (anew_has ParametersOk u h.name.ident.«pos» (parameters_in (knows_receiver (inner u) h.receiver b.node) (forward_name forward (u.path ++ path_by b.node h.name.ident.name)) h.parameters) t.found));
       inside = all_filtered (λ k. nat_lt u.scope k.scope) KnownOk s.known (all_from KnownOk (λ k. nat_lt u.scope k.scope ≡ true → KnownOk k) (λ k a e. a) s.known t.known);
       known = g.known;
     }

@@ -21,13 +21,13 @@ use Rattle.ob_desc.specs.Grammar.{type_fits, param, signature}
 use Rattle.ob_format.specs.Names.{is_object}
 use Rattle.ob_rules.specs.declared.broken.Rule.TheVariants as rule
 use Rattle.ob_rules.specs.declared.broken.Rule.{Rule}
-use Rattle.ob_rules.specs.Judged.{Judged, sound, silent, both, made, noted, each_sound, wants, ◌▷◌}
+use Rattle.ob_rules.specs.Judged.{Judged, sound, silent, both, made, each_sound, wants, ◌▷◌, behind_quiet}
 use Rattle.ob_rules.specs.Names.{Around, map_of, type_named, in_unit}
 use Rattle.ob_rules.specs.Phrases.{Phrase}
 use Rattle.ob_rules.specs.Expressions.{constant_value}
 use Rattle.ob_rules.specs.Shapes.{is_structured, is_pointer}
 use Rattle.ob_rules.specs.Types.{Typing, Written, typed_as, with_types, base_name, element_name, field_name, section_name, marked, named_typing, length_of, array_length, fixed_array, array, first_of, base_of, base_if, inherits, field_declared, field_if, fields_of, names_behind, WrittenFields, first_name, Fields, with_fields, field_lists, record_with, record_desc, pointer_to, base_judged, pointer_base, pointer_by, Parameters, WrittenSection, WrittenParameters, Sections, mode_of, parameter_as, knows, Named, declare_all, parameters_of, with_made, sections, result_fits, result_of, parameters_in, inner, procedure_type}
-use Rattle.law_methods_described.proofs.Nodes.{Has, then_has, any_then, paired_has, both_have, also_has, unless_has, later_has}
+use Rattle.law_methods_described.proofs.Nodes.{Has, then_has, any_then, paired_has, both_have, also_has, unless_has, later_has, quiet_has}
 use Rattle.law_spelling.specs.Trees.{IsNamed, FieldIsSpelled}
 use Rattle.law_spelling.specs.Raw.{is_named, all_named, are_named}
 use Rattle.law_spelling.specs.Ruled.{TypeOk, KnownOk, AroundOk}
@@ -222,8 +222,8 @@ sections_ok (s ∷ ss) g u a name n i =
     let more = (sections v name (i + length s.names) ss).found in
     let mine : Judged Parameters = made (parameters_of u m s.names) t in
     record {
-      found = then_has (λ (p : Parameters × Parameters). ParametersOk p.0 × ParametersOk p.1) ParametersOk (both (noted d.notes mine) more) _
-          (both_have ParametersOk ParametersOk (noted d.notes mine) more (then_has TypingOk ParametersOk t (λ x. sound (parameters_of u m s.names x)) h (λ x k. of_ok u m s.names x k)) rest.found)
+      found = then_has (λ (p : Parameters × Parameters). ParametersOk p.0 × ParametersOk p.1) ParametersOk (both (behind_quiet d.notes mine) more) _
+          (both_have ParametersOk ParametersOk (behind_quiet d.notes mine) more (quiet_has ParametersOk d.notes mine (then_has TypingOk ParametersOk t (λ x. sound (parameters_of u m s.names x)) h (λ x k. of_ok u m s.names x k))) rest.found)
           (λ p k. record {
             params = all_both param.fits p.0.signature.params p.1.signature.params k.0.params k.1.params;
             result = tt;

@@ -24,13 +24,13 @@ use Rattle.ob_rules.specs.declared.entity.Entity.{Entity}
 use Rattle.ob_rules.specs.declared.entity.Entity.TheVariants as entity
 use Rattle.ob_rules.specs.declared.entity.Known.{Known}
 use Rattle.ob_rules.specs.declared.broken.Rule.TheVariants as rule
-use Rattle.ob_rules.specs.Judged.{Judged, sound, both, made, noted, each_sound, ◌▷◌}
+use Rattle.ob_rules.specs.Judged.{Judged, sound, both, made, each_sound, ◌▷◌, behind_quiet}
 use Rattle.ob_rules.specs.Names.{Around, map_of, in_unit, find_name, is_enclosing, variable_known, entity_known, shown_of, export_known, exported, type_of_desc, out_type, out_procedure, type_in, type_of_entity, type_behind, unless_variable_is, unless_variable, type_by, type_named, is_out, own_desc, out_string, type_desc, found_in_scope, predeclared}
 use Rattle.ob_rules.specs.Phrases.{Phrase}
 use Rattle.ob_rules.specs.Shapes.{is_structured, is_pointer, same_name, record_at, record_of, pointed, record_if}
 use Rattle.ob_rules.specs.Depth.{is_within}
 use Rattle.ob_rules.specs.Types.{Typing, Written, typed_as, with_types, base_name, element_name, field_name, section_name, named_typing, array_length, fixed_array, array, first_of, names_behind, WrittenFields, first_name, Fields, fields_of, with_fields, field_lists, record_with, record_desc, pointer_to, base_judged, pointer_base, pointer_by, later_if, later_by, is_later, Parameters, WrittenSection, WrittenParameters, mode_of, parameter_as, knows, declare_all, parameters_of, with_made, sections, result_of, parameters_in, inner, procedure_type, array_node, record_node, pointer_node, procedure_node, base_if, node_rule, fields_rule, parameters_rule, section_rule, written, written_parameters, nothing, is_module_level, marked}
-use Rattle.law_methods_described.proofs.Nodes.{Has, then_has, both_have, first_has, second_has, also_has, unless_has}
+use Rattle.law_methods_described.proofs.Nodes.{Has, then_has, both_have, first_has, second_has, also_has, unless_has, quiet_has, anew_has}
 use Rattle.law_names_distinct.proofs.Typings.{names_of}
 use Rattle.law_spelling_names.specs.Nested.{is_short, first_short, Within, all_within, level, in_node, node_layer, fields_layer, parameters_layer, section_layer, type_within, fields_within, parameters_within, section_within, decl_layer, decl_within}
 use Rattle.law_spelling_names.specs.Seen.{named_in, IsSeen, ShortRef, ShortDesc, AreOthers}
@@ -432,9 +432,9 @@ module _ (types : QName → Option Desc) (unit : List ℕ) (shown : QName → Op
       let rest = sections_good D ss g.1 P v (made_around P (length r + D) r d.around t.node h (declared_around P u m t.node s.names f)) name (i + length s.names) (omega (arith, few)) in
       let more = (sections v name (i + length s.names) ss).found in
       let mine : Judged Parameters = made (parameters_of u m s.names) t in
-      then_has (λ (p : Parameters × Parameters). Made P b p.0.made × Made P b p.1.made) (λ (p : Parameters). Made P b p.made) (both (noted d.notes mine) more) _
-      (both_have (λ (p : Parameters). Made P b p.made) (λ (p : Parameters). Made P b p.made) (noted d.notes mine) more
-      (then_has (IsTyping P (length r + D) r) (λ (p : Parameters). Made P b p.made) t (λ x. sound (parameters_of u m s.names x)) h (λ x k. made_more P (length r + D) b (omega (arith, n)) x.made k.made)) rest)
+      then_has (λ (p : Parameters × Parameters). Made P b p.0.made × Made P b p.1.made) (λ (p : Parameters). Made P b p.made) (both (behind_quiet d.notes mine) more) _
+      (both_have (λ (p : Parameters). Made P b p.made) (λ (p : Parameters). Made P b p.made) (behind_quiet d.notes mine) more
+      (quiet_has (λ (p : Parameters). Made P b p.made) d.notes mine (then_has (IsTyping P (length r + D) r) (λ (p : Parameters). Made P b p.made) t (λ x. sound (parameters_of u m s.names x)) h (λ x k. made_more P (length r + D) b (omega (arith, n)) x.made k.made))) rest)
       (λ p k. made_both P b p.0.made p.1.made k.0 k.1)
 
   pub parameters_good : (D : ℕ) (P : List ℕ) (u : Around) → IsFine P u → (name : List ℕ) (p : WrittenParameters) → AreGoodSections D p.sections → 1 + names_of p.sections < 2 ^ 64 → Has (λ (p : Parameters). Made P (length name + (21 + D)) p.made) (parameters_in u name p).found
@@ -744,6 +744,7 @@ module _ (types : QName → Option Desc) (unit : List ℕ) (shown : QName → Op
       let p = u.path ++ x in
       let n = forward_name forward p in
       let s = heading_parameters u h forward b in
+      let inside = parameters_in (knows_receiver (inner u) h.receiver b.node) n h.parameters in
       let few = path_short b.node h.name.ident.name (owner_if_bound P u g h.receiver) (short_length h.name.ident.name k.name) in
       let e = length-append u.path x in
       let at : length u.path ≡ length P = ap length g.path in
@@ -755,7 +756,8 @@ module _ (types : QName → Option Desc) (unit : List ℕ) (shown : QName → Op
         path = omega (arith, few, e, at);
         parameters = as_made P (most (length P) d) (both (both m b) s.found).node
             (second_has (λ (p : Parameters). Made P (most (length P) d) p.made) (both m b) s.found
-            (there_more (λ (p : Parameters). Made P a p.made) (λ (p : Parameters). Made P (most (length P) d) p.made) s.found.node (λ z y. made_more P a (most (length P) d) (omega (arith, few, e, at, f, l)) z.made y) t));
+            (anew_has (λ (p : Parameters). Made P (most (length P) d) p.made) u h.name.ident.«pos» inside
+            (there_more (λ (p : Parameters). Made P a p.made) (λ (p : Parameters). Made P (most (length P) d) p.made) inside.found.node (λ z y. made_more P a (most (length P) d) (omega (arith, few, e, at, f, l)) z.made y) t)));
       }
 
   -- ---- headings in order

@@ -34,7 +34,8 @@ use Rattle.ob_rules.specs.declared.entity.Entity.TheVariants as entity
 use Rattle.ob_rules.specs.declared.broken.Broken.{Broken}
 use Rattle.ob_rules.specs.declared.broken.Rule.TheVariants as rule
 use Rattle.ob_rules.specs.Judged.{notes_if, Judged, Notes, sound, silent, breaks, also, wants, unless, both, made, noted, joined, no_notes, broken_at, ◌▷◌}
-use Rattle.ob_rules.specs.Shapes.{Map, Member, AField, AMethod, member, pointed, received_record, is_held, base_record}
+use Rattle.ob_rules.specs.Shapes.{Map, Member, AField, AMethod, member, pointed, is_held, base_record}
+pub use Rattle.ob_rules.specs.Shapes.{received_record}
 use Rattle.ob_rules.specs.Names.{Around, map_of, in_unit, type_named, found_in_scope}
 use Rattle.ob_rules.specs.Operators.{signatures_match, and_so}
 use Rattle.ob_rules.specs.Types.{Parameters, Sections, WrittenParameters, is_module_level, marked, written_parameters, parameters_in, inner, knows, with_types}

@@ -11,12 +11,12 @@ use Rattle.ob_types.specs.declared.types.Mode.{Mode}
 use Rattle.ob_types.specs.declared.desc.Receiver.{Receiver}
 use Rattle.ob_types.specs.declared.desc.Receiver.TheVariants as receiver
 use Rattle.ob_types.specs.declared.typed.TypedParameter.{TypedParameter}
-use Rattle.ob_rules.specs.Judged.{sound, both, made, noted}
+use Rattle.ob_rules.specs.Judged.{sound, both, made, behind_quiet}
 use Rattle.ob_rules.specs.Names.{Around}
 use Rattle.ob_rules.specs.Types.{Typing, section_name, Parameters, WrittenSection, WrittenParameters, mode_of, declare_all, parameters_of, parameters_joined, with_made, with_result, sections, result_of, parameters_in, inner, marked, with_types}
 use Rattle.ob_rules.specs.Headings.{WrittenHeading, Head, Heads, BoundAs, as_parameters, owner_if, path_by, forward_name, self_by, knows_receiver, heading_parameters, head_of, name_twice, declared_head, known_behind, types_of, add_heading}
 use Rattle.ob_rules.specs.Declarations.{self_parameters}
-use Rattle.law_methods_described.proofs.Nodes.{Has, any_then, then_has, both_have, first_has, second_has}
+use Rattle.law_methods_described.proofs.Nodes.{Has, any_then, then_has, both_have, first_has, second_has, quiet_has, anew_has}
 use Rattle.law_image_code.specs.Fits.{IsNamed}
 use Rattle.law_builds_bodies.specs.built_laws.Lettered.{is_lettered}
 use Rattle.law_lists.proofs.Lists.{IfThere, all_both}
@@ -60,8 +60,8 @@ sections_named (s ∷ ss) g u name i =
     let n = declare_all u m t.node s.names in
     let rest = sections (with_made n.around t.node) name (i + length s.names) ss in
     let mine = made (parameters_of u m s.names) t in
-    then_has (λ (q : Parameters × Parameters). N q.0 × N q.1) N (both (noted n.notes mine) rest.found) (λ q. sound (parameters_joined q.0 q.1))
-    (both_have N N (noted n.notes mine) rest.found (any_then N t (λ x. sound (parameters_of u m s.names x)) (λ x. names_of u m x s.names g.0)) (sections_named ss g.1 (with_made n.around t.node) name (i + length s.names)))
+    then_has (λ (q : Parameters × Parameters). N q.0 × N q.1) N (both (behind_quiet n.notes mine) rest.found) (λ q. sound (parameters_joined q.0 q.1))
+    (both_have N N (behind_quiet n.notes mine) rest.found (quiet_has N n.notes mine (any_then N t (λ x. sound (parameters_of u m s.names x)) (λ x. names_of u m x s.names g.0))) (sections_named ss g.1 (with_made n.around t.node) name (i + length s.names)))
     (λ q h. all_both (λ (x : TypedParameter). Lettered x.name) q.0.parameters q.1.parameters h.0 h.1)
 
 parameters_named : (u : Around) (name : List ℕ) (p : WrittenParameters) → AreSections p.sections → Has N (parameters_in u name p).found
@@ -98,7 +98,7 @@ head_good u w forward g =
     let name = forward_name forward (u.path ++ path_by b.node w.name.ident.name) in
     record {
       path = named_behind u.path (path_by b.node w.name.ident.name) (path_named b.node w.name.ident.name (lettered_named w.name.ident.name g.name));
-      parameters = as_named (both (both m b) s.found).node (second_has N (both m b) s.found (parameters_named (knows_receiver (inner u) w.receiver b.node) name w.parameters g.sections));
+      parameters = as_named (both (both m b) s.found).node (second_has N (both m b) s.found (anew_has N u w.name.ident.«pos» (parameters_in (knows_receiver (inner u) w.receiver b.node) name w.parameters) (parameters_named (knows_receiver (inner u) w.receiver b.node) name w.parameters g.sections)));
       self = self_ident w.receiver g.receiver;
     }
 

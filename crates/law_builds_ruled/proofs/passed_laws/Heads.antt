@@ -13,10 +13,10 @@ use Rattle.ob_types.specs.declared.typed.TypedParameter.{TypedParameter}
 use Rattle.ob_rules.specs.declared.entity.Known.{Known}
 use Rattle.ob_rules.specs.Judged.{both}
 use Rattle.ob_rules.specs.Names.{Around, in_unit, is_out}
-use Rattle.ob_rules.specs.Types.{Parameters, with_types, marked, inner}
+use Rattle.ob_rules.specs.Types.{Parameters, with_types, marked, inner, parameters_in}
 use Rattle.ob_rules.specs.Headings.{WrittenHeading, Head, BoundAs, Heads, path_by, forward_name, bound_in, of_scope, as_parameters, owner_if, self_by, heading_parameters, knows_receiver, head_of, entity_as, head_entity, declared_head, knows_procedure, known_behind, name_twice, types_of, add_heading}
 use Rattle.ob_rules.specs.Declarations.{Written_procedure, headings_in_order}
-use Rattle.law_methods_described.proofs.Nodes.{Has, second_has}
+use Rattle.law_methods_described.proofs.Nodes.{Has, second_has, anew_has}
 use Rattle.law_body_context.specs.Knows.{EntityStands}
 use Rattle.law_body_context.proofs.Lists.{all_of}
 use Rattle.law_body_context.proofs.Standing.{Lies, lies_front, grows_as, all_grown}
@@ -102,7 +102,7 @@ module _ (unit : List ℕ) (shown : QName → Option Desc) (out : is_out unit �
       let fv = receiver_fair unit shown out u f h.receiver b.node in
       let same = receiver_own u h.receiver b.node in
       record {
-        parameters = as_passed u.own (both (both m b) s.found).node (second_has (ArePassed unit shown out u.own) (both m b) s.found (subst (λ own. Has (ArePassed unit shown out own) s.found) same (parameters_passed unit shown out v fv name h.parameters g)));
+        parameters = as_passed u.own (both (both m b) s.found).node (second_has (ArePassed unit shown out u.own) (both m b) s.found (anew_has (ArePassed unit shown out u.own) u h.name.ident.«pos» (parameters_in v name h.parameters) (subst (λ own. Has (ArePassed unit shown out own) (parameters_in v name h.parameters).found) same (parameters_passed unit shown out v fv name h.parameters g))));
         bound = bound_is u b.node (owner_stands unit shown out u f h.receiver);
         inside = kept_known u.own u.scope s.known (sections_known unit shown out u.own h.parameters.sections v name 1 (subst (λ own. K own v.known) same fv.knows.known));
       }

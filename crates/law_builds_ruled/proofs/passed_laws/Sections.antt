@@ -167,7 +167,7 @@ module _ (unit : List ℕ) (shown : QName → Option Desc) (out : is_out unit �
       n = (declare_all u (mode_of s.is_var) t.node s.names).around
 
       by : (o : Option Typing) → IfThere (Typed u.own) o → ((v : Around) → Fair v → Has (ArePassed v.own) (sections v name (i + length s.names) ss).found)
-          → Has (ArePassed u.own) (both (noted (declare_all u (mode_of s.is_var) t.node s.names).notes (made (parameters_of u (mode_of s.is_var) s.names) (record { node = o; notes = t.notes }))) (sections (with_made (declare_all u (mode_of s.is_var) o s.names).around o) name (i + length s.names) ss).found ▷ λ q. sound (parameters_joined q.0 q.1))
+          → Has (ArePassed u.own) (both (behind_quiet (declare_all u (mode_of s.is_var) o s.names).notes (made (parameters_of u (mode_of s.is_var) s.names) (record { node = o; notes = t.notes }))) (sections (with_made (declare_all u (mode_of s.is_var) o s.names).around o) name (i + length s.names) ss).found ▷ λ q. sound (parameters_joined q.0 q.1))
       by None h r = tt
       by (Some x) h r =
           let m = mode_of s.is_var in

@@ -19,13 +19,13 @@ use Rattle.ob_types.specs.Relations.{is_alias}
 use Rattle.ob_types.specs.Relations as relations
 use Rattle.ob_rules.specs.declared.broken.Rule.TheVariants as rule
 use Rattle.ob_rules.specs.declared.broken.Rule.{Rule}
-use Rattle.ob_rules.specs.Judged.{Judged, sound, both, made, noted, unless, also, each_sound, ◌▷◌}
+use Rattle.ob_rules.specs.Judged.{Judged, sound, both, made, unless, also, each_sound, ◌▷◌, behind_quiet}
 use Rattle.ob_rules.specs.Shapes.{Map, same_name, open_at, is_open, is_structured, is_pointer}
 use Rattle.ob_rules.specs.Names.{Around, in_unit, own_desc, out_string, type_desc, map_of, type_named}
 use Rattle.ob_rules.specs.Phrases.{Phrase}
 use Rattle.ob_rules.specs.Types.{Typing, Written, typed_as, with_types, base_name, element_name, field_name, section_name, named_typing, array_length, fixed_array, array, first_of, names_behind, WrittenFields, first_name, Fields, fields_of, with_fields, fields_joined, field_lists, record_with, record_desc, pointer_to, base_judged, pointer_base, pointer_by, Parameters, WrittenSection, WrittenParameters, mode_of, declare_all, parameters_of, parameters_joined, with_made, with_result, sections, result_of, parameters_in, inner, procedure_type}
 use Rattle.law_simulation_relation.proofs.Names.{bytes_same}
-use Rattle.law_methods_described.proofs.Nodes.{Has, then_has, any_then, both_have, first_has, second_has}
+use Rattle.law_methods_described.proofs.Nodes.{Has, then_has, any_then, both_have, first_has, second_has, quiet_has}
 use Rattle.law_lists.proofs.Lists.{IfThere, all_both}
 
 abbrev pub NoAliases : List TypedType → Type 0
@@ -179,8 +179,8 @@ sections_good (s ∷ ss) g u name i =
     let v = with_made n.around t.node in
     let rest = (sections v name (i + length s.names) ss).found in
     let mine : Judged Parameters = made (parameters_of u (mode_of s.is_var) s.names) t in
-    then_has (λ (p : Parameters × Parameters). MakeNone p.0 × MakeNone p.1) MakeNone (both (noted n.notes mine) rest) (λ q. sound (parameters_joined q.0 q.1))
-    (both_have MakeNone MakeNone (noted n.notes mine) rest (then_has (TypingShut u true) MakeNone t (λ x. sound (parameters_of u (mode_of s.is_var) s.names x)) (g.0 u (section_name name i) mark.Hidden true) (λ x h. h.made)) (sections_good ss g.1 v name (i + length s.names)))
+    then_has (λ (p : Parameters × Parameters). MakeNone p.0 × MakeNone p.1) MakeNone (both (behind_quiet n.notes mine) rest) (λ q. sound (parameters_joined q.0 q.1))
+    (both_have MakeNone MakeNone (behind_quiet n.notes mine) rest (quiet_has MakeNone n.notes mine (then_has (TypingShut u true) MakeNone t (λ x. sound (parameters_of u (mode_of s.is_var) s.names x)) (g.0 u (section_name name i) mark.Hidden true) (λ x h. h.made))) (sections_good ss g.1 v name (i + length s.names)))
     (λ p h. all_both (λ t. is_alias t.desc ≡ false) p.0.made p.1.made h.0 h.1)
 
 pub type_good : (u : Around) (name : List ℕ) (m : Mark) (open_ok : Bool) (p : WrittenParameters) → AreGoodSections p.sections → Has (TypingShut u open_ok) (procedure_type u name m p)

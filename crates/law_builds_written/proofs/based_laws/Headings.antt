@@ -1,4 +1,5 @@
 -- Headings: no type that one makes is known by a name.
+use Rattle.law_methods_described.proofs.Nodes.{anew_has}
 use Rattle.std.proofs.Common.{◌≡◌, ℕ, ◌+◌, Bool, true, false, List, [], ◌∷◌, ◌++◌, length, Option, Some, None}
 use Rattle.std.specs.Prelude.{nat_lt}
 use Rattle.std.specs.List.{AllByRecursion}
@@ -15,7 +16,7 @@ use Rattle.ob_types.specs.declared.typed.TypedType.{TypedType}
 use Rattle.ob_rules.specs.declared.entity.Known.{Known}
 use Rattle.ob_rules.specs.Judged.{paired}
 use Rattle.ob_rules.specs.Names.{Around, in_unit, is_out}
-use Rattle.ob_rules.specs.Types.{Typing, with_types, section_name, Parameters, WrittenSection, mode_of, parameter_as, knows, declare_all, with_made, sections, marked, inner}
+use Rattle.ob_rules.specs.Types.{Typing, with_types, section_name, Parameters, WrittenSection, mode_of, parameter_as, knows, declare_all, with_made, sections, marked, inner, parameters_in}
 use Rattle.ob_rules.specs.Headings.{WrittenHeading, Head, Heads, BoundAs, owner_if, knows_receiver, path_by, forward_name, as_parameters, heading_parameters, head_of, entity_as, head_entity, name_twice, declared_head, knows_procedure, known_behind, types_of, add_heading}
 use Rattle.ob_rules.specs.Declarations.{Written_procedure, headings_in_order}
 use Rattle.law_typing.specs.Makes.{IfThere}
@@ -88,7 +89,7 @@ module _ (unit : List ℕ) (shown : QName → Option Desc) (out : is_out unit �
       let s = heading_parameters u w forward b in
       let k : T before v = receiver_known before (inner u) (record { unit_is = t.unit_is; shown_is = t.shown_is; known = t.known }) w.receiver b.node in
       record {
-        made = over_back unit shown out before (types_of (head_of u w forward).parameters) (types_of_three (λ ts. AllByRecursion (IsOver (S (names_of before))) ts) tt (marked u false w.name).node b.node s.found.node (parameters_over AnyValue unit shown out (names_of before) v (known_over unit shown out before v k) name w.parameters g));
+        made = over_back unit shown out before (types_of (head_of u w forward).parameters) (types_of_three (λ ts. AllByRecursion (IsOver (S (names_of before))) ts) tt (marked u false w.name).node b.node s.found.node (anew_has (λ (p : Parameters). AllByRecursion (IsOver (S (names_of before))) p.made) u w.name.ident.«pos» (parameters_in v name w.parameters) (parameters_over AnyValue unit shown out (names_of before) v (known_over unit shown out before v k) name w.parameters g)));
         inside = all_filtered (E before) (λ k. nat_lt u.scope k.scope) s.known (all_of (E before) (λ k. nat_lt u.scope k.scope ≡ true → E before k) s.known (λ k h e. h) (sections_known before w.parameters.sections v k name 1));
         known = t.known;
       }
