@@ -1,6 +1,6 @@
 -- Sequences of declarations with the procedures in them: all types that they make are whole.
 use Rattle.std.proofs.Common.{◌≡◌, ⊎_elim, inl, inr, refl, sym, ap, subst, ◌∙◌, ℕ, zero, suc, Bool, true, false, List, [], ◌∷◌, ◌++◌, Option, Some, None, codes}
-use Rattle.std.specs.Prelude.{not, ◌&&◌}
+use Rattle.std.specs.Prelude.{not, ◌&&◌, ◌||◌}
 use Rattle.std.specs.List.{AllByRecursion, filter_map}
 use Rattle.std.proofs.lemmas.Bool.{false≢true}
 use Rattle.ob_tree.specs.declared.names.QName.{QName}
@@ -131,6 +131,10 @@ module _ (shown : QName → Option Desc) (unit : List ℕ) (kept : IsClosed show
   right_is false b c e f g = absurd cc
   right_is true false c e f g = absurd cc
 
+  not_either : (a b : Bool) → a || b ≡ false → b ≡ false
+  not_either true b e = absurd cc
+  not_either false b e = e
+
   pointer_is : (m k : Mark) (t u : TypeRef) → desc.Pointer m t ≡ desc.Pointer k u → t ≡ u
   pointer_is m k t u e = cc
 
@@ -148,7 +152,7 @@ module _ (shown : QName → Option Desc) (unit : List ℕ) (kept : IsClosed show
             let b = one_all (Tells F) L (later.PointsTo y at u inline) told i in
             let same : t ≡ u = pointer_is a.1.1.1.0 b.1.1.1.0 t u (sym a.1.1.1.1 ∙ one a.0 b.0 a.1.0 b.1.0 (a.1.1.0 ∙ sym n ∙ sym b.1.1.0) ∙ b.1.1.1.1) in
             seen (right_is (is_held (map_of w) t) (is_held (map_of w) (target (map_of w) 201 t)) (is_structured (map_of w) t) (held_at unit shown w k.unit_is k.shown_is k.own t s) (held_at unit shown w k.unit_is k.shown_is k.own (target (map_of w) 201 t) (target_stands w k.unit_is k.shown_is aliases 201 t s))
-            (subst (λ v. is_wrong (map_of w) (later.PointsTo y at v inline) ≡ false) (sym same) e))
+            (not_either inline _ (subst (λ v. is_wrong (map_of w) (later.PointsTo y at v inline) ≡ false) (sym same) e)))
 
         go : HasRight w L x → Seen unit shown In is_structured true t
         go r = by r.l r.there r.pointer r.name r.right

@@ -1,4 +1,7 @@
 -- The headings of a sequence: their parameters are of types that stand, and so are those of the procedures that are bound to records.
+use Rattle.std.proofs.lemmas.List.{append-nil}
+use Rattle.ob_rules.specs.declared.broken.Rule.TheVariants as rule
+use Rattle.law_acyclic.proofs.Tells.{then_tell, unless_tell}
 use Rattle.std.proofs.Common.{◌≡◌, ⊎_elim, inl, inr, refl, sym, ap, subst, ◌∙◌, ℕ, Bool, true, false, List, [], ◌∷◌, ◌++◌, Option, Some, None}
 use Rattle.std.specs.Prelude.{bytes_eq, is_some}
 use Rattle.std.specs.List.{AllByRecursion, filter}
@@ -16,11 +19,11 @@ use Rattle.ob_types.specs.declared.typed.TypedType.{TypedType}
 use Rattle.ob_rules.specs.declared.notes.Later.{Later}
 use Rattle.ob_rules.specs.declared.notes.Later.TheVariants as later
 use Rattle.ob_rules.specs.declared.entity.Known.{Known}
-use Rattle.ob_rules.specs.Judged.{joined, paired, made}
+use Rattle.ob_rules.specs.Judged.{joined, paired, made, if_sound}
 use Rattle.ob_rules.specs.Shapes.{Map, Member, AField, AMethod, member, is_record, is_structured}
 use Rattle.ob_rules.specs.Names.{Around, map_of, is_among, in_unit, is_out, type_named}
-use Rattle.ob_rules.specs.Types.{Parameters, with_types, marked, inner}
-use Rattle.ob_rules.specs.Headings.{BoundAs, owner_of, owner_if, knows_receiver, WrittenHeading, Head, Heads, path_by, forward_name, as_parameters, heading_parameters, head_of, entity_as, head_entity, name_twice, declared_head, knows_procedure, known_behind, types_of, signature_if, signature_or_none, new_method, with_method, change_desc, changed_if, change_type, Binding, redefined, bind_method, bind_by, bind_one, bind_all, of_record, bind_records, counted, counts, reversed, bindings}
+use Rattle.ob_rules.specs.Types.{Parameters, with_types, marked, inner, parameters_in}
+use Rattle.ob_rules.specs.Headings.{BoundAs, owner_of, owner_if, knows_receiver, WrittenHeading, Head, Heads, path_by, forward_name, as_parameters, heading_parameters, head_of, entity_as, head_entity, name_twice, declared_head, knows_procedure, known_behind, types_of, signature_if, signature_or_none, new_method, with_method, change_desc, changed_if, change_type, Binding, redefined, bind_method, bind_by, bind_one, bind_all, of_record, bind_records, counted, counts, reversed, bindings, made_anew, are_there}
 use Rattle.ob_rules.specs.Declarations.{Written_procedure, headings_in_order, around_body, procedure_judged, procedures_judged, closing_judged, types_of_head}
 use Rattle.law_typing_forms.specs.Said.{IsOneOf}
 use Rattle.law_names_procedures.proofs.Judges.{Has, Speaks, has_more, made_speaks}
@@ -218,9 +221,15 @@ module _ (shown : QName → Option Desc) (unit : List ℕ) (kept : IsClosed show
       let n : Has (Fits w.receiver) b.node = owner_fits u k a h w.receiver (back_empty m.notes.broken b.notes.broken two) in
       let kv = receiver_place (inner u) (inner_place unit shown out path names u k) w.receiver b.node n in
       let name = forward_name forward (u.path ++ path_by b.node w.name.ident.name) in
-      let p = parameters_firm unit shown out path names v kv name w.parameters g three_e in
+      let at = w.name.ident.«pos» in
+      let inside = parameters_in v name w.parameters in
+      let p = parameters_firm unit shown out path names v kv name w.parameters g (front_empty inside.found.notes.broken (if_sound inside.found.node (made_anew u at)).notes.broken three_e) in
+      let found : Has (AreParameters unit shown out path names v.own s.found.notes.later) s.found.node =
+      then_tell (AreParameters unit shown out path names v.own) (AreParameters unit shown out path names v.own) inside.found (made_anew u at) (λ i. p.0)
+      (λ x i. unless_tell (λ ms (y : Parameters). AreParameters unit shown out path names v.own (inside.found.notes.later ++ ms) y) (are_there u x.made) rule.DeclaredTwice at x (λ n. subst (λ ls. AreParameters unit shown out path names v.own ls x) (sym (append-nil inside.found.notes.later)) i))
+      three_e in
       let same : (head_of u w forward).parameters ≡ s.found.node = three_is w.receiver m.node b.node s.found.node mm n in
-      let q : Has (AreParameters unit shown out path names u.own s.found.notes.later) s.found.node = subst (λ own. Has (AreParameters unit shown out path names own s.found.notes.later) s.found.node) (receiver_own (inner u) w.receiver b.node) p.0 in
+      let q : Has (AreParameters unit shown out path names u.own s.found.notes.later) s.found.node = subst (λ own. Has (AreParameters unit shown out path names own s.found.notes.later) s.found.node) (receiver_own (inner u) w.receiver b.node) found in
       let left : s.found.notes.later ≡ (m.notes.later ++ b.notes.later) ++ s.found.notes.later = ap (λ ls. ls ++ s.found.notes.later) (sym (ap (λ ls. ls ++ b.notes.later) (mark_nil u false w.name) ∙ owner_nil u w.receiver)) in
       record {
         told = subst (λ o. AreTold (types_of o) ((m.notes.later ++ b.notes.later) ++ s.found.notes.later)) (sym same) (subst (AreTold (types_of s.found.node)) left (told_of u.own s.found.notes.later s.found.node q));

@@ -26,13 +26,13 @@ use Rattle.ob_rules.specs.Phrases.{Phrase}
 use Rattle.ob_rules.specs.Expressions.{constant_value}
 use Rattle.ob_rules.specs.Types.{Typing, Written, with_types, is_module_level, marked}
 use Rattle.ob_rules.specs.Headings.{mark_or_hidden}
-use Rattle.ob_rules.specs.Declarations.{Declared, declare_if, no_nil, constant_entity, constant_contents, constant_declared, equated, typing_as, type_entity, types_made, type_declared, variable_of, variable_entity, variable_contents, paired_typing, variable_marked, variables_with, made_in, behind_part, variables_declared, first_name, twice}
+use Rattle.ob_rules.specs.Declarations.{Declared, declare_if, no_nil, constant_entity, constant_contents, constant_declared, equated, typing_as, type_entity, types_made, type_declared, variable_of, variable_entity, variable_contents, paired_typing, variable_marked, variables_with, made_in, behind_part, variables_declared, first_name, twice, newly, of_new, later_if_new}
 use Rattle.law_typing_forms.specs.Said.{IsOneOf}
 use Rattle.law_typing.specs.Makes.{IfThere}
 use Rattle.law_simulation_relation.proofs.Names.{bytes_true}
 use Rattle.law_names_procedures.proofs.Judges.{Has, Speaks, then_speaks, both_speak, breaks_speaks}
 use Rattle.law_names_procedures.proofs.Knowing.{IsKnown, AreKnown}
-use Rattle.law_names_procedures.proofs.Typings.{constant_speaks, mark_speaks}
+use Rattle.law_names_procedures.proofs.Typings.{constant_speaks, mark_speaks, newly_has}
 use Rattle.law_local_module.proofs.Leaves.{Nil, then_nil, both_nil}
 use Rattle.law_local_module.proofs.Typings.{LengthNil, constant_nil, mark_nil}
 use Rattle.law_body_context.specs.Knows.{HasName, EntityStands}
@@ -173,20 +173,27 @@ module _ (unit : List ℕ) (shown : QName → Option Desc) (out : is_out unit �
   type_is u name ls None h = absurd h
   type_is u name ls (Some p) h = ((tt, h.of), (h.made, (h.told, h.named)))
 
+  not_found : (o : Option Known) (at : Pos) → (notes_if (is_some o) rule.DeclaredTwice at).broken ≡ [] → o ≡ None
+  not_found None at e = refl
+  not_found (Some k) at e = absurd cc
+
   pub type_firm : (d : IdentDef) (w : Written) → IsFirm unit shown out path names w → GoodPlain (Some d.ident.name) (type_declared d w)
   type_firm d w g u k e =
-      let m = marked u false d in
+      let m = newly u d in
       let name = u.path ++ d.ident.name in
       let t = typing_as u name (mark_or_hidden m.node) w w.name in
       let j = both m t in
       let f : j.notes.broken ≡ [] = front_empty j.notes.broken (twice u d.ident).broken e in
       let h : Has (IsPairNamed u name j.notes.later) j.node =
-      both_tell (λ ls (x : Mark). ls ≡ []) (IsNamed u name) (IsPairNamed u name) m t (nil_tell Anything (λ ls x. ls ≡ []) m (mark_nil u false d) (mark_speaks u false d) (λ x i. refl)) (as_firm u k name (mark_or_hidden m.node) w g w.name refl)
+      both_tell (λ ls (x : Mark). ls ≡ []) (IsNamed u name) (IsPairNamed u name) m t (nil_tell Anything (λ ls x. ls ≡ []) m (mark_nil u false d) (λ i. newly_has u d (back_empty j.notes.broken (twice u d.ident).broken e) (mark_speaks u false d i)) (λ x i. refl)) (as_firm u k name (mark_or_hidden m.node) w g w.name refl)
       (λ x y i l. subst (λ ls. IsNamed u name (ls ++ t.notes.later) y) (sym i) l) f in
       let r = type_is u name j.notes.later j.node h in
       let made = types_made j.node in
       let v = with_types u made in
-      let later : j.notes.later ≡ j.notes.later ++ (twice u d.ident).later = sym (append-nil j.notes.later) ∙ ap (λ ls. j.notes.later ++ ls) (sym (twice_nil (is_some (found_in_scope u d.ident.name)) d.ident.pos)) in
+      let new : found_in_scope u d.ident.name ≡ None = not_found (found_in_scope u d.ident.name) d.ident.pos (back_empty j.notes.broken (twice u d.ident).broken e) in
+      let later : j.notes.later ≡ (of_new u d.ident j.notes).later ++ (twice u d.ident).later =
+      sym (append-nil j.notes.later) ∙ ap (λ ls. j.notes.later ++ ls) (sym (twice_nil (is_some (found_in_scope u d.ident.name)) d.ident.pos))
+      ∙ ap (λ o. later_if_new o j.notes.later ++ (twice u d.ident).later) (sym new) in
       let c = declare_known v.own (found_in_scope v d.ident.name) v d.ident (type_entity j.node) k.sound (all_grown unit shown AnyValue u.own v.own (grows_front made u.own) u.known k.knows.known) r.0.0 r.0.1 in
       record {
         more = (declare_if (found_in_scope v d.ident.name) v d.ident (type_entity j.node)).known;

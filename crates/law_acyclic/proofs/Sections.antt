@@ -15,7 +15,7 @@ use Rattle.ob_types.specs.declared.typed.TypedType.{TypedType}
 use Rattle.ob_rules.specs.declared.notes.Later.{Later}
 use Rattle.ob_rules.specs.declared.entity.Known.{Known}
 use Rattle.ob_rules.specs.declared.broken.Rule.TheVariants as rule
-use Rattle.ob_rules.specs.Judged.{Judged, Notes, if_sound, paired, sound, both, made, noted}
+use Rattle.ob_rules.specs.Judged.{Judged, Notes, if_sound, paired, sound, both, made, noted, is_quiet, if_quiet, behind_quiet}
 use Rattle.ob_rules.specs.Shapes.{is_structured}
 use Rattle.ob_rules.specs.Names.{Around, map_of, type_named, found_in_scope, is_out}
 use Rattle.ob_rules.specs.Types.{Typing, typed_as, with_types, section_name, first_of, Parameters, WrittenSection, WrittenParameters, Sections, mode_of, twice_if, parameter_as, knows, declare_all, parameters_of, parameters_joined, behind_section, with_made, section, sections, result_fits, result_of, with_result, parameters_in, inner, procedure_type}
@@ -23,7 +23,7 @@ use Rattle.law_typing_forms.specs.Said.{IsOneOf}
 use Rattle.law_typing.specs.Makes.{IfThere}
 use Rattle.law_names_procedures.proofs.Judges.{Has}
 use Rattle.law_names_procedures.proofs.Knowing.{AreKnown}
-use Rattle.law_names_procedures.proofs.Typings.{declare_all_is}
+use Rattle.law_names_procedures.proofs.Typings.{declare_all_is, quiet_is}
 use Rattle.law_body_context.specs.Knows.{EntityStands}
 use Rattle.law_body_context.proofs.Lists.{one_left, one_right, one_joined, there_of}
 use Rattle.law_body_context.proofs.Standing.{Lies, lies_front, grows_as, grows_front, stands_grown}
@@ -115,14 +115,14 @@ module _ (unit : List ℕ) (shown : QName → Option Desc) (out : is_out unit �
     section_by None ns h = λ e.
         let d = (declare_all u m None xs).notes in
         let j : Judged Typing = record { node = None; notes = ns } in
-        let mine = noted d (made (parameters_of u m xs) j) in
+        let mine = behind_quiet d (made (parameters_of u m xs) j) in
         let r = (rest (record u { known = (declare_all u m None xs).around.known })).found in
         let two : mine.notes.broken ++ r.notes.broken ≡ [] = front_empty (mine.notes.broken ++ r.notes.broken) _ e in
         absurd (h (front_empty ns.broken [] (back_empty d.broken (ns.broken ++ []) (front_empty mine.notes.broken r.notes.broken two))))
     section_by (Some t) ns h = λ e.
         let d = (declare_all u m (Some t) xs).notes in
         let j : Judged Typing = record { node = Some t; notes = ns } in
-        let mine = noted d (made (parameters_of u m xs) j) in
+        let mine = behind_quiet d (made (parameters_of u m xs) j) in
         let w : Around = record u { known = (declare_all u m (Some t) xs).around.known } in
         let r = (rest (with_types w t.made)).found in
         let two : mine.notes.broken ++ r.notes.broken ≡ [] = front_empty (mine.notes.broken ++ r.notes.broken) _ e in
@@ -132,7 +132,10 @@ module _ (unit : List ℕ) (shown : QName → Option Desc) (out : is_out unit �
         let kv = with_place unit shown out path names w kw ns.later t.made i.made in
         let g = good (with_types w t.made) kv (back_empty mine.notes.broken r.notes.broken two) in
         let ls : (d.later ++ (ns.later ++ [])) ++ r.notes.later ≡ ns.later ++ r.notes.later = sym (append-nil ((d.later ++ (ns.later ++ [])) ++ r.notes.later)) ∙ later_is d.later ns.later r.notes.later (declares_nil u m (Some t) xs) in
-        (joined_has u.own ns.later r.notes.later ((d.later ++ (ns.later ++ [])) ++ r.notes.later) (parameters_of u m xs t) ls (one_section u m xs t name q ns.later i) refl r.node g.0, g.1)
+        let quiet : is_quiet d.broken ≡ true = quiet_is d.broken (front_empty d.broken (ns.broken ++ []) (front_empty mine.notes.broken r.notes.broken two)) in
+        let both_of : Bool → Judged Parameters = λ b. if_sound (paired (if_quiet b (Some (parameters_of u m xs t))) r.node) (λ q. sound (parameters_joined q.0 q.1)) in
+        (subst (λ b. Has (AreParameters u.own (((d.later ++ (ns.later ++ [])) ++ r.notes.later) ++ (both_of b).notes.later)) (both_of b).node) (sym quiet)
+        (joined_has u.own ns.later r.notes.later ((d.later ++ (ns.later ++ [])) ++ r.notes.later) (parameters_of u m xs t) ls (one_section u m xs t name q ns.later i) refl r.node g.0), g.1)
 
     section_firm : (t : Judged Typing) → Tell (IsTyping unit shown out path names u name q true) t → TellSections u (section u m xs t rest)
     section_firm t h =

@@ -38,7 +38,7 @@ use Rattle.law_body_context.proofs.Named.{type_named_stands}
 use Rattle.law_body_context.specs.Order.{IsOver}
 use Rattle.law_body_context.proofs.InOrder.{over_all}
 use Rattle.law_body_context.proofs.Over.{AreSectionsOver, ParametersOver, parameters_over}
-use Rattle.law_body_context.proofs.Sections.{AreGoodSections, ParametersAre, ParameterEntity, SectionsAre, parameters_are, inner_known}
+use Rattle.law_body_context.proofs.Sections.{AreGoodSections, ParametersAre, ParameterEntity, SectionsAre, parameters_are, inner_known, anew_are}
 
 -- the parameters of a procedure, its receiver first
 abbrev pub all_parameters : Head → Parameters → List TypedParameter
@@ -273,8 +273,9 @@ module _ (IsConstant : Value → Type 0) (unit : List ℕ) (shown : QName → Op
       let v : Around = record (inner u) { known = (knows_receiver (inner u) h.receiver b.node).known } in
       let name = forward_name forward (u.path ++ path_by b.node h.name.ident.name) in
       from_stands u below h forward (marked u false h.name) b (heading_parameters u h forward b)
+      (anew_are IsConstant unit shown out u.own (suc u.scope) v.known u h.name.ident.«pos» (parameters_in (knows_receiver (inner u) h.receiver b.node) name h.parameters)
       (subst (λ (w : Around). SectionsAre IsConstant unit shown out u.own (suc u.scope) v.known (parameters_in w name h.parameters)) (sym (receiver_around (inner u) h.receiver b.node))
-      (parameters_are IsConstant unit shown out v (receiver_known (inner u) (inner_known IsConstant unit shown out u k) h.receiver b.node) name h.parameters g))
+      (parameters_are IsConstant unit shown out v (receiver_known (inner u) (inner_known IsConstant unit shown out u k) h.receiver b.node) name h.parameters g)))
       (owner_stands u k h.receiver)
       (parameters_in_over u k h forward y)
 

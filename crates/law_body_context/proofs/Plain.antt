@@ -24,7 +24,7 @@ use Rattle.ob_rules.specs.Phrases.{Phrase}
 use Rattle.ob_rules.specs.Expressions.{constant_value}
 use Rattle.ob_rules.specs.Types.{Typing, Written, with_types, is_module_level, marked, nothing}
 use Rattle.ob_rules.specs.Headings.{mark_or_hidden}
-use Rattle.ob_rules.specs.Declarations.{Contents, no_contents, Declared, declare, no_nil, constant_entity, constant_contents, constant_declared, equated, typing_as, type_entity, types_made, type_declared, variable_of, variable_entity, variable_contents, paired_typing, variables_with, first_name, made_in, variables_declared, in_order}
+use Rattle.ob_rules.specs.Declarations.{Contents, no_contents, Declared, declare, no_nil, constant_entity, constant_contents, constant_declared, equated, typing_as, type_entity, types_made, type_declared, variable_of, variable_entity, variable_contents, paired_typing, variables_with, first_name, made_in, variables_declared, in_order, newly}
 use Rattle.law_methods_described.proofs.Nodes.{Has, then_has, second_has}
 use Rattle.law_typing.specs.Makes.{IfThere}
 use Rattle.law_body_context.specs.Knows.{Stands, IsDescribed, EntityStands, Knows}
@@ -144,7 +144,7 @@ module _ (IsConstant : Value → Type 0) (shown : QName → Option Desc) (m : Ty
 
   pub type_plain : (d : IdentDef) (w : Written) → IsGood IsConstant m.name shown out w → IsWellOver IsConstant m.name shown out w → IsPlain (type_declared d w)
   type_plain d w g y l u b i =
-      let k = marked u false d in
+      let k = newly u d in
       let t = typing_as u (u.path ++ d.ident.name) (mark_or_hidden k.node) w w.name in
       let o = (both k t).node in
       let h = second_has (T u.own) k t (as_good u b.knows (u.path ++ d.ident.name) (mark_or_hidden k.node) w g w.name) in

@@ -1,4 +1,5 @@
 -- Parameters: their types stand, they have the modes and types of the signature, and what is known behind them are they.
+use Rattle.ob_rules.specs.Headings.{anew, made_anew, are_there}
 use Rattle.std.proofs.Common.{◌≡◌, ⊎_elim, refl, sym, ap, subst, ℕ, ◌+◌, Bool, true, false, List, [], ◌∷◌, ◌++◌, length, map, Option, Some, None, inl, inr}
 use Rattle.std.specs.Prelude.{bytes_eq}
 use Rattle.std.specs.List.{AllByRecursion}
@@ -22,12 +23,12 @@ use Rattle.ob_rules.specs.declared.entity.Entity.{Entity}
 use Rattle.ob_rules.specs.declared.entity.Entity.TheVariants as entity
 use Rattle.ob_rules.specs.declared.entity.Known.{Known}
 use Rattle.ob_rules.specs.declared.broken.Rule.TheVariants as rule
-use Rattle.ob_rules.specs.Judged.{Judged, Notes, sound, both, made, if_sound, paired, unless}
+use Rattle.ob_rules.specs.Judged.{Judged, Notes, sound, both, made, if_sound, paired, unless, is_quiet, if_quiet, joined, ◌▷◌}
 use Rattle.ob_rules.specs.Shapes.{same_name, passing_of, by_value, by_var, is_open, is_structured, is_record}
 use Rattle.ob_rules.specs.Names.{Around, map_of, type_desc, out_string, type_named, is_out}
 use Rattle.ob_rules.specs.Types.{Typing, with_types, section_name, Parameters, WrittenSection, WrittenParameters, Sections, mode_of, parameter_as, knows, declare_all, parameters_of, parameters_joined, behind_section, with_made, section, sections, result_fits, result_of, first_of, with_result, behind_sections, parameters_in, inner, procedure_type, typed_as}
 use Rattle.law_typing_forms.specs.Said.{IsOneOf}
-use Rattle.law_methods_described.proofs.Nodes.{Has, then_has, both_have}
+use Rattle.law_methods_described.proofs.Nodes.{Has, then_has, both_have, anew_has}
 use Rattle.law_typing.specs.Makes.{IfThere}
 use Rattle.law_body_context.specs.Knows.{Grows, Stands, IsDescribed, EntityStands, Knows, IsPlain}
 use Rattle.law_body_context.specs.Judged as judged
@@ -114,6 +115,21 @@ module _ (IsConstant : Value → Type 0) (unit : List ℕ) (shown : QName → Op
   entity_none own more o (entity.Predeclared p) h = h
   entity_none own more o entity.LeftOut h = h
   entity_none own more o entity.Unsound h = tt
+
+  -- parameters whose types no other declaration has made
+  pub anew_are : (own : List TypedType) (scope : ℕ) (before : List Known) (u : Around) (at : Pos) (s : Sections) → SectionsAre own scope before s → SectionsAre own scope before (anew u at s)
+  anew_are own scope before u at s h = record {
+    found = anew_has (ParametersAre own) u at s h.found;
+    known = λ P g f. h.known P g (λ x e i. f x e (by s.found.node x.what i));
+  }
+    where
+      one : (p : Parameters) (b : Bool) (e : Entity) → ParameterEntity own (Some p) e → ParameterEntity own (unless b rule.DeclaredTwice at p).node e
+      one p true e i = entity_none own own (Some p) e i
+      one p false e i = i
+
+      by : (o : Option Parameters) (e : Entity) → ParameterEntity own o e → ParameterEntity own (if_sound o (made_anew u at)).node e
+      by None e i = i
+      by (Some p) e i = one p (are_there u p.made) e i
 
   -- where one option comes from another, as far as parameters go
   entity_of : (own more : List TypedType) (o p : Option Parameters) → ((v : Variable) (t : TypeRef) → IfThere (λ p. IsParameter p.parameters v t × S (p.made ++ own) t) o → IfThere (λ p. IsParameter p.parameters v t × S (p.made ++ more) t) p) → (e : Entity) → ParameterEntity own o e → ParameterEntity more p e
@@ -235,17 +251,34 @@ module _ (IsConstant : Value → Type 0) (unit : List ℕ) (shown : QName → Op
           found = tt;
           known = λ P g f. r.known P (names_known P m None u u.known xs g (λ x ls i. f (record { name = x.name; scope = u.scope; what = entity.Unsound }) refl tt)) (λ x e i. f x e (entity_none u.own u.own (rest v).found.node x.what i));
         }
-    behind_is u k (Some t) n s h =
-        let w : Around = record u { known = (declare_all u m (Some t) xs).around.known } in
-        let v : Around = with_types w t.made in
-        let a : Parameters = parameters_of u m xs t in
-        let r = good v (with_types_known unit shown IsConstant w (around_known u k m (Some t) h xs) t.made h.made) in
-        record {
+    behind_is u k (Some t) n s h = by (is_quiet s.broken)
+      where
+        v : Around
+        v = with_types (record u { known = (declare_all u m (Some t) xs).around.known }) t.made
+
+        a : Parameters
+        a = parameters_of u m xs t
+
+        r : SectionsAre v.own v.scope v.known (rest v)
+        r = good v (with_types_known unit shown IsConstant (record u { known = (declare_all u m (Some t) xs).around.known }) (around_known u k m (Some t) h xs) t.made h.made)
+
+        front : Bool → Judged Parameters
+        front q = record { node = if_quiet q (Some a); notes = joined s (made (parameters_of u m xs) (record { node = Some t; notes = n })).notes }
+
+        by : (q : Bool) → SectionsAre u.own u.scope u.known (record { found = both (front q) (rest v).found ▷ λ q. sound (parameters_joined q.0 q.1); known = (rest v).known })
+        by true = record {
           found = joined_are u.own a (rest v).found.node (mine_are u m xs t h) r.found;
           known = λ P g f.
               r.known P
               (names_known P m (Some t) u u.known xs g (λ x ls i. f (record { name = x.name; scope = u.scope; what = parameter_as (record u { known = ls }) m x (Some t) }) refl (entity_left u.own a (rest v).found.node _ t.of (mine_entity u m xs t x ls h i))))
               (λ x e i. f x e (entity_of v.own u.own (rest v).found.node (joined_node (Some a) (rest v).found.node) (λ p q. entity_right u.own a (rest v).found.node p q) x.what i));
+        }
+        by false = record {
+          found = tt;
+          known = λ P g f.
+              r.known P
+              (names_known P m (Some t) u u.known xs g (λ x ls i. f (record { name = x.name; scope = u.scope; what = parameter_as (record u { known = ls }) m x (Some t) }) refl tt))
+              (λ x e i. f x e (entity_none v.own u.own (rest v).found.node x.what i));
         }
 
     section_is : (u : Around) → K u → (t : Judged Typing) → Has (TypingIs IsConstant unit shown out u.own) t → SectionsAre u.own u.scope u.known (section u m xs t rest)

@@ -1,6 +1,6 @@
 -- The bound procedures that records introduce have different names, once all is bound.
 use Rattle.std.proofs.Common.{◌≡◌, ◌≢◌, refl, sym, ◌∙◌, subst, ℕ, Bool, true, false, not, List, [], ◌∷◌, ◌++◌, Option, Some, None, cond, inl, inr}
-use Rattle.std.specs.Prelude.{bytes_eq, ◌&&◌, is_some}
+use Rattle.std.specs.Prelude.{bytes_eq, ◌&&◌, is_some, ◌||◌}
 use Rattle.std.specs.List.{AllByRecursion, find, filter}
 use Rattle.std.proofs.lemmas.Slice.Eq.{bytes_eq-Decides}
 use Rattle.ob_tree.specs.declared.names.QName.{QName}
@@ -14,7 +14,7 @@ use Rattle.ob_rules.specs.Judged.{no_notes}
 use Rattle.ob_rules.specs.Shapes.{Map, Member, AField, AMethod, own_member, member}
 use Rattle.ob_rules.specs.Names.{Around}
 use Rattle.ob_rules.specs.Operators.{signatures_match}
-use Rattle.ob_rules.specs.Headings.{Head, BoundAs, Binding, signature_if, same_kind, introduced_sound, change_desc, changed_if, change_type, with_method, new_method, introduce, redefined, bind_method, bind_by, bind_one, bind_all, of_record, bind_records, counted, reversed, bindings}
+use Rattle.ob_rules.specs.Headings.{Head, BoundAs, Binding, signature_if, same_kind, introduced_sound, change_desc, changed_if, change_type, with_method, new_method, introduce, redefined, bind_method, bind_by, bind_one, bind_all, of_record, bind_records, counted, reversed, bindings, differ}
 use Rattle.law_typing_forms.specs.Said.{IsOneOf}
 use Rattle.law_methods_introduced.proofs.Grown.{none_within, no_field}
 use Rattle.law_methods_introduced.proofs.Binding.{desc_in, at_own}
@@ -112,7 +112,7 @@ module _ (u : Around) (cs : List Head) (ready : (h : Head) → IsOneOf cs h → 
 
   method_same : (c : Bool) (map : Map) (s : Binding) (h : Head) (a : BoundAs) (owner : QName) (m : Method) → (bind_method c u map s h a owner m).own ≡ s.own
   method_same true map s h a owner m = refl
-  method_same false map s h a owner m = redefined_same (introduced_sound u s.bound owner m.name && is_some h.parameters && not (same_kind m.receiver a.receiver && signatures_match map (Some m.signature) (signature_if h.parameters))) s h a
+  method_same false map s h a owner m = redefined_same (not (same_kind m.receiver a.receiver) || differ map h m (introduced_sound u s.bound owner m.name)) s h a
 
   introduced : (s : Binding) (h : Head) → IsOneOf cs h → (a : BoundAs) → h.bound ≡ Some a → member (with_own u s.own) a.owner h.name ≡ None → AreNamed s.own → AreNamed (introduce s h a).own
   introduced s h i a e f g =

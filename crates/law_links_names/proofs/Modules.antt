@@ -35,7 +35,7 @@ use Rattle.ob_rules.specs.Types.{Typing, Written, written, Parameters, WrittenSe
 use Rattle.ob_tree.specs.declared.ident.Mark.TheVariants as mark
 use Rattle.ob_rules.specs.Statements.{Judging, judging, in_turn}
 use Rattle.ob_rules.specs.Headings.{WrittenHeading, Head, Heads, BoundAs, head_of, heading_parameters, self_of, knows_receiver, owner_if, entity_as, head_entity, declared_head, knows_procedure, known_behind, name_twice, types_of, add_heading, forwards_judged, reversed, mark_or_hidden}
-use Rattle.ob_rules.specs.Declarations.{Contents, no_contents, together, Declared, declare_if, constant_entity, constant_contents, constant_declared, no_nil, type_entity, types_made, type_declared, typing_as, variable_of, variable_entity, variable_contents, paired_typing, variable_marked, variables_with, made_in, variables_typed, Written_procedure, Declaration, Plain, Procedure, plain_of, procedure_of, type_name_of, in_order, headings_in_order, around_body, procedure_contents, closing_judged, procedure_judged, procedures_judged, body_part, stmts_in, with_bound, binding_at, all_judged, field_judged, heads_later, block, pointers_judged, decl_rule, declaration, is_system, import_entity, import_declared, target_of, imports_declared, around_module, module_of, name_judged, typed_module, if_unbroken}
+use Rattle.ob_rules.specs.Declarations.{Contents, no_contents, together, Declared, declare_if, constant_entity, constant_contents, constant_declared, no_nil, type_entity, types_made, type_declared, typing_as, variable_of, variable_entity, variable_contents, paired_typing, variable_marked, variables_with, made_in, variables_typed, Written_procedure, Declaration, Plain, Procedure, plain_of, procedure_of, type_name_of, in_order, headings_in_order, around_body, procedure_contents, closing_judged, procedure_judged, procedures_judged, body_part, stmts_in, with_bound, binding_at, all_judged, field_judged, heads_later, block, pointers_judged, decl_rule, declaration, is_system, import_entity, import_declared, target_of, imports_declared, around_module, module_of, name_judged, typed_module, if_unbroken, newly}
 use Rattle.law_links_names.specs.Trees.{StmtsNamed}
 use Rattle.law_links_names.specs.Mentions.{IsAmong, AreMentioned as Mention, ModulesMention}
 use Rattle.law_links_names.proofs.Setting.{Setting, S, IsVar, IsProc, Any, V, EntityOk, Stands, AreMentioned}
@@ -109,7 +109,7 @@ type_e k (Some p) = tt
 
 type_good : (k : Setting) (d : IdentDef) (w : Written) → GoodPlain k (type_declared d w)
 type_good k d w u s =
-    let m = marked u false d in
+    let m = newly u d in
     let j = both m (typing_as u (u.path ++ d.ident.name) (mark_or_hidden m.node) w w.name) in
     let v = with_types u (types_made j.node) in
     record { contents = record { procedures = tt; body = tt }; around = if_declared k (found_in_scope v d.ident.name) v (typed_stands k u (types_made j.node) s) d.ident _ (type_e k j.node) }

@@ -33,7 +33,7 @@ use Rattle.ob_rules.specs.Phrases.{Phrase}
 use Rattle.ob_rules.specs.Types.{Typing, Written, written, Parameters, with_types, is_module_level, marked}
 use Rattle.ob_rules.specs.Statements.{Judging, judging, in_turn}
 use Rattle.ob_rules.specs.Headings.{Head, Heads, forwards_judged, reversed, mark_or_hidden, types_of}
-use Rattle.ob_rules.specs.Declarations.{Contents, no_contents, together, Declared, declare_if, constant_contents, constant_entity, constant_declared, no_nil, equated, typing_as, type_entity, types_made, type_declared, variable_entity, variable_contents, paired_typing, variable_marked, variables_with, made_in, first_name, variables_typed, Written_procedure, Declaration, Plain, Procedure, plain_of, procedure_of, type_name_of, in_order, headings_in_order, around_body, types_of_head, procedure_contents, closing_judged, procedure_judged, procedures_judged, body_part, stmts_in, with_bound, binding_at, all_judged, field_judged, heads_later, block, pointers_judged, decl_rule, declaration, import_declared, target_of, imports_declared, around_module, module_of, name_judged, described, all_described, typed_module, if_unbroken}
+use Rattle.ob_rules.specs.Declarations.{Contents, no_contents, together, Declared, declare_if, constant_contents, constant_entity, constant_declared, no_nil, equated, typing_as, type_entity, types_made, type_declared, variable_entity, variable_contents, paired_typing, variable_marked, variables_with, made_in, first_name, variables_typed, Written_procedure, Declaration, Plain, Procedure, plain_of, procedure_of, type_name_of, in_order, headings_in_order, around_body, types_of_head, procedure_contents, closing_judged, procedure_judged, procedures_judged, body_part, stmts_in, with_bound, binding_at, all_judged, field_judged, heads_later, block, pointers_judged, decl_rule, declaration, import_declared, target_of, imports_declared, around_module, module_of, name_judged, described, all_described, typed_module, if_unbroken, newly}
 use Rattle.std.specs.Prelude.{codes}
 use Rattle.law_names_distinct.specs.Distinct.{AreDistinct}
 use Rattle.law_links_types.specs.Trees.{StmtsRecorded, TypeRecorded, ModuleRecorded}
@@ -97,7 +97,7 @@ made_ok k (Some p) h i = h.1 i
 
 type_good : (k : Setting) (d : IdentDef) (w : Written) → IsGood k w → GoodPlain k (type_declared d w)
 type_good k d w g u s h =
-    let m = marked u false d in
+    let m = newly u d in
     let t = typing_as u (u.path ++ d.ident.name) (mark_or_hidden m.node) w w.name in
     let j = both m t in
     let v = with_types u (types_made j.node) in

@@ -1,6 +1,6 @@
 -- Bound procedures and forward declarations, with other interfaces around.
 use Rattle.std.proofs.Common.{◌≡◌, refl, ap, ◌∙◌, subst, ℕ, List, [], ◌∷◌, Option, Some, None, Bool, true, false, not}
-use Rattle.std.specs.Prelude.{◌&&◌, is_some, bytes_eq}
+use Rattle.std.specs.Prelude.{◌&&◌, is_some, bytes_eq, ◌||◌}
 use Rattle.std.specs.List.{AllByRecursion, find, filter}
 use Rattle.ob_tree.specs.declared.names.QName.{QName}
 use Rattle.ob_types.specs.declared.types.Signature.{Signature}
@@ -14,7 +14,7 @@ use Rattle.ob_rules.specs.Shapes.{Map, Member, AField, AMethod, member}
 use Rattle.ob_rules.specs.Names.{Around, map_of}
 use Rattle.ob_rules.specs.Types.{Parameters}
 use Rattle.ob_rules.specs.Operators.{signatures_match}
-use Rattle.ob_rules.specs.Headings.{BoundAs, Head, same_kind, same_receiver, signature_if, both_sound, forward_broken, forward_if, forwards_judged, answers, counts, counted, Binding, new_method, with_method, change_desc, changed_if, change_type, redefined, introduced_sound, bind_method, bind_by, bind_one, bind_all, of_record, bind_records, reversed, bindings}
+use Rattle.ob_rules.specs.Headings.{BoundAs, Head, same_kind, same_receiver, signature_if, both_sound, forward_broken, forward_if, forwards_judged, answers, counts, counted, Binding, new_method, with_method, change_desc, changed_if, change_type, redefined, introduced_sound, bind_method, bind_by, bind_one, bind_all, of_record, bind_records, reversed, bindings, differ}
 use Rattle.law_local_judged.specs.Agreement.{DescIn, Agree}
 use Rattle.law_local_judged.specs.Said.{SignatureIn}
 use Rattle.law_local_judged.specs.Followed.{beside, Agrees}
@@ -87,7 +87,7 @@ module _ (P : QName → Type 0) (sh : QName → Option Desc) where
     method_same : (t : Bool) (st : Binding) (h : Head) (b : BoundAs) (owner : QName) (m : Method) (f g : Map) → Agree P f g → HeadIn P h → SignatureIn P m.signature → bind_method t v g st h b owner m ≡ bind_method t u f st h b owner m
     method_same true st h b owner m f g agree i k = refl
     method_same false st h b owner m f g agree i k =
-        ap (λ x. redefined (introduced_sound u st.bound owner m.name && is_some h.parameters && not (same_kind m.receiver b.receiver && x)) st h b)
+        ap (λ x. redefined (not (same_kind m.receiver b.receiver) || (introduced_sound u st.bound owner m.name && is_some h.parameters && not x)) st h b)
         (signatures_match_same P f g agree (Some m.signature) (signature_if h.parameters) (λ s e. subst (SignatureIn P) (some_same e) k) (λ s e. signature_there P f g agree h.parameters s i.parameters e))
 
     by_same : (st : Binding) (h : Head) (b : BoundAs) (o : Option Member) (f g : Map) → Agree P f g → HeadIn P h → ((owner : QName) (m : Method) → o ≡ Some (AMethod owner m) → SignatureIn P m.signature) → bind_by v g st h b o ≡ bind_by u f st h b o
@@ -109,7 +109,7 @@ module _ (P : QName → Type 0) (sh : QName → Option Desc) where
 
     method_in : (t : Bool) (f : Map) (st : Binding) (h : Head) (b : BoundAs) (owner : QName) (m : Method) → MadeIn P st.own → MadeIn P (bind_method t u f st h b owner m).own
     method_in true f st h b owner m made = made
-    method_in false f st h b owner m made = redefined_in (introduced_sound u st.bound owner m.name && is_some h.parameters && not (same_kind m.receiver b.receiver && signatures_match f (Some m.signature) (signature_if h.parameters))) st h b made
+    method_in false f st h b owner m made = redefined_in (not (same_kind m.receiver b.receiver) || differ f h m (introduced_sound u st.bound owner m.name)) st h b made
 
     by_in : (f : Map) (st : Binding) (h : Head) (b : BoundAs) (o : Option Member) → MadeIn P st.own → MadeIn P (bind_by u f st h b o).own
     by_in f st h b None made = change_in b.owner.object (new_method h b) st.own made

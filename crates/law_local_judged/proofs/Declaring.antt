@@ -17,12 +17,12 @@ use Rattle.ob_rules.specs.declared.entity.Entity.{Entity}
 use Rattle.ob_rules.specs.declared.entity.Entity.TheVariants as entity
 use Rattle.ob_rules.specs.declared.entity.Known.{Known}
 use Rattle.ob_rules.specs.declared.broken.Rule.TheVariants as rule
-use Rattle.ob_rules.specs.Judged.{notes_if, both, ◌▷◌}
+use Rattle.ob_rules.specs.Judged.{notes_if, both, ◌▷◌, Notes}
 use Rattle.ob_rules.specs.Names.{Around, found_in_scope}
 use Rattle.ob_rules.specs.Expressions.{phrase_of, constant_value}
 use Rattle.ob_rules.specs.Types.{Typing, written, is_module_level, marked, with_types}
 use Rattle.ob_rules.specs.Headings.{mark_or_hidden}
-use Rattle.ob_rules.specs.Declarations.{with_part, Declared, no_contents, declare_if, twice, no_nil, constant_entity, constant_with, constant_declared, equated, typing_as, type_entity, types_made, type_with, type_declared, variable_of, variable_entity, paired_typing, variable_marked, variables_with, first_name, made_in, variables_typed, variables_declared, in_order}
+use Rattle.ob_rules.specs.Declarations.{with_part, Declared, no_contents, declare_if, twice, no_nil, constant_entity, constant_with, constant_declared, equated, typing_as, type_entity, types_made, type_with, type_declared, variable_of, variable_entity, paired_typing, variable_marked, variables_with, first_name, made_in, variables_typed, variables_declared, in_order, newly, of_new}
 use Rattle.law_local_judged.specs.Agreement.{IsIn}
 use Rattle.law_local_judged.specs.Said.{SaidIn}
 use Rattle.law_local_judged.specs.Followed.{beside, EntityIn, Agrees, Follows}
@@ -113,22 +113,28 @@ module _ (P : QName → Type 0) (s : QName → Option Desc) where
     as_follows name m n (Some q) = follows_made P (TypingIn P) (λ t. Unit {0}) (TypingIn P) (λ t. Unit {0}) (Unit {0}) (equated u name m) ((written n).typing u name m false) ((written n).typing v name m false) (written_follows P n u s a own name m false) (λ t h. equated_in name m t h) (λ t h k. tt)
     as_follows name m n None = written_follows P n u s a own name m false
 
-    type_follows : (d : IdentDef) (n : TypeNode) → Follows P (λ (p : Mark × Typing). Unit {0} × TypingIn P p.1) (λ p. Unit {0} × Unit {0}) (Unit {0} × Unit {0}) (both (marked u false d) (typing_as u (u.path ++ d.ident.name) (mark_or_hidden (marked u false d).node) (written n) (written n).name)) (both (marked v false d) (typing_as v (v.path ++ d.ident.name) (mark_or_hidden (marked v false d).node) (written n) (written n).name))
+    newly_follows : (d : IdentDef) → TF P (λ m. Unit {0}) (newly u d) (newly v d)
+    newly_follows d = record { keeps = λ x e said. tt; same = λ x e said m. (tt, refl) }
+
+    said_new : (x : Ident) (n : Notes) → SaidIn P (of_new u x n) → SaidIn P n
+    said_new x n said = record { objects = said.objects; types = said.types; lengths = said.lengths }
+
+    type_follows : (d : IdentDef) (n : TypeNode) → Follows P (λ (p : Mark × Typing). Unit {0} × TypingIn P p.1) (λ p. Unit {0} × Unit {0}) (Unit {0} × Unit {0}) (both (newly u d) (typing_as u (u.path ++ d.ident.name) (mark_or_hidden (newly u d).node) (written n) (written n).name)) (both (newly v d) (typing_as v (v.path ++ d.ident.name) (mark_or_hidden (newly v d).node) (written n) (written n).name))
     type_follows d n =
-        follows_both P (λ m. Unit {0}) (λ m. Unit {0}) (TypingIn P) (λ t. Unit {0}) (Unit {0}) (Unit {0}) (marked u false d) (marked v false d) (typing_as u (u.path ++ d.ident.name) (mark_or_hidden (marked u false d).node) (written n) (written n).name) (typing_as v (v.path ++ d.ident.name) (mark_or_hidden (marked v false d).node) (written n) (written n).name)
-        (marked_follows false d) (as_follows (u.path ++ d.ident.name) (mark_or_hidden (marked u false d).node) n (written n).name)
+        follows_both P (λ m. Unit {0}) (λ m. Unit {0}) (TypingIn P) (λ t. Unit {0}) (Unit {0}) (Unit {0}) (newly u d) (newly v d) (typing_as u (u.path ++ d.ident.name) (mark_or_hidden (newly u d).node) (written n) (written n).name) (typing_as v (v.path ++ d.ident.name) (mark_or_hidden (newly v d).node) (written n) (written n).name)
+        (newly_follows d) (as_follows (u.path ++ d.ident.name) (mark_or_hidden (newly u d).node) n (written n).name)
 
     made_there : (o : Option (Mark × Typing)) (p : Mark × Typing) → o ≡ Some p → TypingIn P p.1 → MadeIn P (types_made o) × EntityIn P (type_entity o)
     made_there o p e h = subst (λ o. MadeIn P (types_made o) × EntityIn P (type_entity o)) (sym e) (h.1, h.0)
 
     type_same : (d : IdentDef) (n : TypeNode) → (type_declared d (written n) u).part.notes.broken ≡ [] → SaidIn P (type_declared d (written n) u).part.notes → AreSound (type_declared d (written n) u).around.known → DeclaredSame P u s (type_declared d (written n) u) (type_declared d (written n) v)
     type_same d n quiet said h =
-        let j = both (marked u false d) (typing_as u (u.path ++ d.ident.name) (mark_or_hidden (marked u false d).node) (written n) (written n).name) in
+        let j = both (newly u d) (typing_as u (u.path ++ d.ident.name) (mark_or_hidden (newly u d).node) (written n) (written n).name) in
         let w = with_types u (types_made j.node) in
         let o = found_in_scope w d.ident.name in
         let t = type_there j.node (declared_sound o w d.ident (type_entity j.node) (back_empty j.notes.broken (twice u d.ident).broken quiet) h) in
         let f = type_follows d n in
-        let said_j = said_left P j.notes (twice u d.ident) said in
+        let said_j = said_new d.ident j.notes (said_left P (of_new u d.ident j.notes) (twice u d.ident) said) in
         let same = (f.same t.0 t.1 said_j (tt, tt)).1 in
         let m = made_there j.node t.0 t.1 (f.keeps t.0 t.1 said_j).1 in
         let moved : type_declared d (written n) v ≡ type_with v d.ident j = ap (type_with v d.ident) same in
@@ -230,7 +236,7 @@ module _ (P : QName → Type 0) (s : QName → Option Desc) where
   plain_grows : (f : Around → Declared) → IsPlain f → (u : Around) → AreSound (f u).around.known → AreSound u.known
   plain_grows f (a_constant d x) u h = known_grows (found_in_scope u d.ident.name) u d.ident (constant_entity (both (marked u false d) (constant_value u (phrase_of x) ▷ no_nil (phrase_of x).start)).node) h
   plain_grows f (a_type d n) u h =
-      let j = both (marked u false d) (typing_as u (u.path ++ d.ident.name) (mark_or_hidden (marked u false d).node) (written n) (written n).name) in
+      let j = both (newly u d) (typing_as u (u.path ++ d.ident.name) (mark_or_hidden (newly u d).node) (written n) (written n).name) in
       let w = with_types u (types_made j.node) in
       known_grows (found_in_scope w d.ident.name) w d.ident (type_entity j.node) h
   plain_grows f (variables d ds n) u h =

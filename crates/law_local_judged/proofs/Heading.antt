@@ -12,11 +12,11 @@ use Rattle.ob_types.specs.declared.types.TypeRef.{TypeRef}
 use Rattle.ob_types.specs.declared.desc.Desc.{Desc}
 use Rattle.ob_rules.specs.declared.entity.Entity.TheVariants as entity
 use Rattle.ob_rules.specs.declared.broken.Rule.TheVariants as rule
-use Rattle.ob_rules.specs.Judged.{silent, breaks, both}
+use Rattle.ob_rules.specs.Judged.{silent, breaks, both, unless, if_sound, ◌▷◌}
 use Rattle.ob_rules.specs.Shapes.{pointed}
 use Rattle.ob_rules.specs.Names.{Around, map_of, in_unit, type_named}
 use Rattle.ob_rules.specs.Types.{Parameters, Sections, is_module_level, marked, parameters_in, inner, with_types}
-use Rattle.ob_rules.specs.Headings.{BoundAs, kind_of, received_record, is_own, if_own, own_record, silent_base, bound_to, owner_of, owner_if, self_of, knows_receiver, WrittenHeading, heading_of, Head, path_by, forward_name, bound_in, as_parameters, head_from, heading_parameters, head_with, head_of, entity_as, head_entity, twice_by, name_twice, declared_head, knows_procedure, known_behind, Heads, add_judged, types_of, add_typed, add_heading}
+use Rattle.ob_rules.specs.Headings.{BoundAs, kind_of, received_record, is_own, if_own, own_record, silent_base, bound_to, owner_of, owner_if, self_of, knows_receiver, WrittenHeading, heading_of, Head, path_by, forward_name, bound_in, as_parameters, head_from, heading_parameters, head_with, head_of, entity_as, head_entity, twice_by, name_twice, declared_head, knows_procedure, known_behind, Heads, add_judged, types_of, add_typed, add_heading, anew, made_anew, are_there}
 use Rattle.ob_rules.specs.Declarations.{received_by, result_in, around_body, Written_procedure, headings_in_order}
 use Rattle.law_local_judged.specs.Agreement.{IsIn, Agree}
 use Rattle.law_local_judged.specs.Said.{SaidIn}
@@ -121,6 +121,17 @@ module _ (P : QName → Type 0) (s : QName → Option Desc) where
   parameters_there None p e = none_some e
   parameters_there (Some q) p e = (q, (refl, some_same e))
 
+  anew_node : (u : Around) (at : Pos) (j : Judged Parameters) (p : Parameters) → (j ▷ made_anew u at).node ≡ Some p → j.node ≡ Some p
+  anew_node u at j p e = by j.node e
+    where
+      one : (q : Parameters) (b : Bool) → (unless b rule.DeclaredTwice at q).node ≡ Some p → Some q ≡ Some p
+      one q true e = none_some e
+      one q false e = e
+
+      by : (o : Option Parameters) → (if_sound o (made_anew u at)).node ≡ Some p → o ≡ Some p
+      by None e = none_some e
+      by (Some q) e = one q (are_there u q.made) e
+
   -- ---- a heading
 
   pub record HeadFollows (u : Around) (h : Heading) (forward : Bool) : Type 0 where
@@ -134,6 +145,8 @@ module _ (P : QName → Type 0) (s : QName → Option Desc) where
       let m = marked u false g.name in
       let b = owner_if u g.receiver in
       let x = heading_parameters u g forward b in
+      let at = g.name.ident.«pos» in
+      let inside = parameters_in (knows_receiver (inner u) g.receiver b.node) (forward_name forward (u.path ++ path_by b.node g.name.ident.name)) g.parameters in
       let t = parameters_there (both (both m b) x.found).node k.parameters.0 k.parameters.1 in
       let q = both_node (both m b) x.found t.0 t.1.0 in
       let r = both_node m b t.0.0 q.0 in
@@ -148,13 +161,13 @@ module _ (P : QName → Type 0) (s : QName → Option Desc) where
       let p = parameters_follow P s w (receiver_agrees (inner u) g.receiver t.0.0.1 (agrees_inner P u s a) bound) (subst (OwnIn P) (sym (receiver_unit (inner u) g.receiver t.0.0.1)) own) name g.parameters (written_parameters_follow P h.parameters) in
       let at_node : (o : Option (Option BoundAs)) → Sections = λ o. parameters_in (knows_receiver (inner u) g.receiver o) (forward_name forward (u.path ++ path_by o g.name.ident.name)) g.parameters in
       let at_beside : (o : Option (Option BoundAs)) → Sections = λ o. parameters_in (knows_receiver (inner v) g.receiver o) (forward_name forward (u.path ++ path_by o g.name.ident.name)) g.parameters in
-      let x_is : x ≡ parameters_in w name g.parameters = ap at_node r.1 in
-      let node_is : (parameters_in w name g.parameters).found.node ≡ Some t.0.1 = sym (ap (λ (z : Sections). z.found.node) x_is) ∙ q.1 in
-      let said_w = subst (λ (z : Sections). SaidIn P z.found.notes) x_is said_x in
+      let x_is : inside ≡ parameters_in w name g.parameters = ap at_node r.1 in
+      let node_is : (parameters_in w name g.parameters).found.node ≡ Some t.0.1 = sym (ap (λ (z : Sections). z.found.node) x_is) ∙ anew_node u at inside.found t.0.1 q.1 in
+      let said_w = subst (λ (z : Sections). SaidIn P z.found.notes) x_is (said_left P inside.found.notes (if_sound inside.found.node (made_anew u at)).notes said_x) in
       let known = p.known t.0.1 node_is said_w in
       let found = (p.found.same t.0.1 node_is said_w tt).1 in
-      let moved_x : heading_parameters v g forward b ≡ parameters_in (beside w s) name g.parameters = ap at_beside r.1 ∙ ap (λ z. parameters_in z name g.parameters) (receiver_beside (inner u) g.receiver t.0.0.1) in
-      let found_same : (heading_parameters v g forward b).found ≡ x.found = ap (λ (z : Sections). z.found) moved_x ∙ (found ∙ sym (ap (λ (z : Sections). z.found) x_is)) in
+      let moved_x : heading_parameters v g forward b ≡ anew v at (parameters_in (beside w s) name g.parameters) = ap (λ o. anew v at (at_beside o)) r.1 ∙ ap (λ z. anew v at (parameters_in z name g.parameters)) (receiver_beside (inner u) g.receiver t.0.0.1) in
+      let found_same : (heading_parameters v g forward b).found ≡ x.found = ap (λ (z : Sections). z.found) moved_x ∙ (ap (λ (j : Judged Parameters). j ▷ made_anew u at) found ∙ sym (ap (λ (z : Sections). (anew u at z).found) x_is)) in
       let known_same : (heading_parameters v g forward b).known ≡ x.known = ap (λ (z : Sections). z.known) moved_x ∙ (known.0 ∙ sym (ap (λ (z : Sections). z.known) x_is)) in
       record {
         same = ap (λ z. head_with v g forward m z) same_b ∙ two (λ i ks. head_from u g forward m b (record { found = i; known = ks })) found_same known_same;

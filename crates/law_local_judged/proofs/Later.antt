@@ -41,8 +41,8 @@ module _ (P : QName → Type 0) (u : Around) (s : QName → Option Desc) (a : Ag
   wrong_same : (l : Later) → LaterIn P l → is_wrong (map_of v) l ≡ is_wrong (map_of u) l
   wrong_same (later.PointsTo x at t inline) h =
       let k = target_same P (map_of u) (map_of v) maps 201 t h in
-      three (λ b c d. b && c && not d) (held_same P (map_of u) (map_of v) maps t h) (ap (is_held (map_of v)) k.0 ∙ held_same P (map_of u) (map_of v) maps (target (map_of u) 201 t) k.1)
-      (two (λ b c. b || c) (is_array_same P (map_of u) (map_of v) maps t h) (is_record_same P (map_of u) (map_of v) maps t h))
+      ap (λ b. inline || b) (three (λ b c d. b && c && not d) (held_same P (map_of u) (map_of v) maps t h) (ap (is_held (map_of v)) k.0 ∙ held_same P (map_of u) (map_of v) maps (target (map_of u) 201 t) k.1)
+      (two (λ b c. b || c) (is_array_same P (map_of u) (map_of v) maps t h) (is_record_same P (map_of u) (map_of v) maps t h)))
   wrong_same (later.Inherits x t) h = refl
 
   judged_same : (l : Later) (p : Pointers) → LaterIn P l → pointer_judged v l p ≡ pointer_judged u l p

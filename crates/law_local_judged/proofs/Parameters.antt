@@ -16,7 +16,7 @@ use Rattle.ob_rules.specs.declared.entity.Entity.{Entity}
 use Rattle.ob_rules.specs.declared.entity.Entity.TheVariants as entity
 use Rattle.ob_rules.specs.declared.entity.Known.{Known}
 use Rattle.ob_rules.specs.declared.broken.Rule.TheVariants as rule
-use Rattle.ob_rules.specs.Judged.{Judged, sound, both, made, noted, if_sound, ◌▷◌}
+use Rattle.ob_rules.specs.Judged.{Judged, sound, both, made, noted, if_sound, ◌▷◌, is_quiet, if_quiet, behind_quiet}
 use Rattle.ob_rules.specs.Shapes.{is_structured, passing_of}
 use Rattle.ob_rules.specs.Names.{Around, map_of, type_named}
 use Rattle.ob_rules.specs.Types.{Typing, typed_as, with_types, section_name, first_of, Parameters, WrittenSection, WrittenParameters, Sections, mode_of, new_name, parameter_as, knows, Named, with_notes, declare_all, parameters_of, parameters_joined, behind_section, with_made, section_named, sections, result_fits, result_of, with_result, parameters_in, inner, procedure_type}
@@ -34,6 +34,10 @@ use Rattle.law_lists.proofs.Lists.{all_both}
 
 made_same : {A B : Type 0} (f g : A → B) (j : Judged A) (x : A) → j.node ≡ Some x → g x ≡ f x → made g j ≡ made f j
 made_same {A} {B} f g j x e k = ap (λ o. noted j.notes (if_sound o (λ x. sound (g x)))) e ∙ (ap (λ y. noted j.notes (sound y)) k ∙ sym (ap (λ o. noted j.notes (if_sound o (λ x. sound (f x)))) e))
+
+quiet_node : {A : Type 0} (b : Bool) (o : Option A) (x : A) → if_quiet b o ≡ Some x → o ≡ Some x
+quiet_node true o x e = e
+quiet_node false o x e = none_some e
 
 module _ (P : QName → Type 0) where
   abbrev ModeIn : Mode × TypeRef → Type 0
@@ -115,13 +119,13 @@ module _ (P : QName → Type 0) where
             let ty2 = k.node.typing v (section_name name i) mark.Hidden true in
             let next : Around → Sections = λ w. sections w name (i + length k.names) ss in
             let body : Around → Option Typing → Sections = λ w o. behind_section (made (parameters_of w m xs) ty) (declare_all w m o xs).notes (next (with_made (declare_all w m o xs).around o)) in
-            let front = noted (declare_all u m ty.node xs).notes (made (parameters_of u m xs) ty) in
+            let front = behind_quiet (declare_all u m ty.node xs).notes (made (parameters_of u m xs) ty) in
             let rest = next (with_made (declare_all u m ty.node xs).around ty.node) in
             let n = made_node (λ (q : Parameters × Parameters). parameters_joined q.0 q.1) (both front rest.found) p e in
             let q = both_node front rest.found n.0 n.1.0 in
             let t = front_said P (both front rest.found) (λ q. sound (parameters_joined q.0 q.1)) said in
             let said_front = said_right P (declare_all u m ty.node xs).notes (made (parameters_of u m xs) ty).notes (said_left P front.notes rest.found.notes t) in
-            let z = made_node (parameters_of u m xs) ty n.0.0 q.0 in
+            let z = made_node (parameters_of u m xs) ty n.0.0 (quiet_node (is_quiet (declare_all u m ty.node xs).notes.broken) (made (parameters_of u m xs) ty).node n.0.0 q.0) in
             let said_ty = front_said P ty (λ x. sound (parameters_of u m xs x)) said_front in
             let f = h.0 u s a own (section_name name i) mark.Hidden true in
             let tied = f.keeps z.0 z.1.0 said_ty in
@@ -146,7 +150,7 @@ module _ (P : QName → Type 0) where
               (
                 subst (ParametersIn P) (ap (λ y. parameters_joined y n.0.1) first_is ∙ n.1.1) joined_in,
                 ap (λ (r : Sections). r.found) moved_to
-                    ∙ (ap (λ j. both (noted (declare_all u m (Some z.0) xs).notes (made (parameters_of u m xs) ty)) j ▷ λ q. sound (parameters_joined q.0 q.1)) found_rest ∙ sym (ap (λ (r : Sections). r.found) stays)),
+                    ∙ (ap (λ j. both (behind_quiet (declare_all u m (Some z.0) xs).notes (made (parameters_of u m xs) ty)) j ▷ λ q. sound (parameters_joined q.0 q.1)) found_rest ∙ sym (ap (λ (r : Sections). r.found) stays)),
               ),
               (ap (λ (r : Sections). r.known) moved_to ∙ (known.0 ∙ sym (ap (λ (r : Sections). r.known) stays)), subst (λ (r : Sections). KnownIn P r.known) (sym stays) known.1),
             )

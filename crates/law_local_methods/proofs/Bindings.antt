@@ -1,6 +1,6 @@
 -- What headings redefine is found when all that is bound is known.
 use Rattle.std.proofs.Common.{◌≡◌, refl, sym, ap, subst, ℕ, Bool, true, false, not, List, [], ◌∷◌, Option, Some, None}
-use Rattle.std.specs.Prelude.{◌&&◌, bytes_eq, is_some}
+use Rattle.std.specs.Prelude.{◌&&◌, bytes_eq, is_some, ◌||◌}
 use Rattle.std.specs.List.{AllByRecursion, filter}
 use Rattle.ob_tree.specs.declared.names.QName.{QName}
 use Rattle.ob_types.specs.declared.desc.Method.{Method}
@@ -9,7 +9,7 @@ use Rattle.ob_rules.specs.Judged.{no_notes}
 use Rattle.ob_rules.specs.Shapes.{Map, Member, AField, AMethod, member}
 use Rattle.ob_rules.specs.Names.{Around, map_of}
 use Rattle.ob_rules.specs.Operators.{signatures_match}
-use Rattle.ob_rules.specs.Headings.{BoundAs, Head, signature_if, same_kind, counted, Binding, new_method, with_method, change_type, redefined, introduced_sound, bind_method, bind_by, bind_one, bind_all, of_record, bind_records, bindings, reversed}
+use Rattle.ob_rules.specs.Headings.{BoundAs, Head, signature_if, same_kind, counted, Binding, new_method, with_method, change_type, redefined, introduced_sound, bind_method, bind_by, bind_one, bind_all, of_record, bind_records, bindings, reversed, differ}
 use Rattle.law_local_judged.specs.Said.{SignatureIn}
 use Rattle.law_local_judged.specs.Headed.{StepIn, StepsIn, RecordsIn, BindingsIn}
 use Rattle.law_local_judged.proofs.Heading.{kept_filter}
@@ -27,7 +27,7 @@ module _ (u : Around) where
 
   method_same : (c : Bool) (map : Map) (st : Binding) (h : Head) (b : BoundAs) (owner : QName) (m : Method) → (bind_method c u map st h b owner m).own ≡ st.own
   method_same true map st h b owner m = refl
-  method_same false map st h b owner m = redefined_same (introduced_sound u st.bound owner m.name && is_some h.parameters && not (same_kind m.receiver b.receiver && signatures_match map (Some m.signature) (signature_if h.parameters))) st h b
+  method_same false map st h b owner m = redefined_same (not (same_kind m.receiver b.receiver) || differ map h m (introduced_sound u st.bound owner m.name)) st h b
 
   stay_same : (a b : List TypedType) → b ≡ a → Stay a b
   stay_same a b e q x r h = subst (λ z. member (with_own u z) q x ≡ Some r) (sym e) h

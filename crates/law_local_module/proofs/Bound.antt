@@ -1,6 +1,6 @@
 -- What is bound in a module that breaks no rule.
 use Rattle.std.proofs.Common.{◌≡◌, refl, sym, ap, ◌∙◌, ℕ, Bool, true, false, not, List, [], ◌∷◌, ◌++◌, Option, Some, None, cond}
-use Rattle.std.specs.Prelude.{◌&&◌, bytes_eq, is_some, is_none}
+use Rattle.std.specs.Prelude.{◌&&◌, bytes_eq, is_some, is_none, ◌||◌}
 use Rattle.std.specs.List.{AllByRecursion, find, filter}
 use Rattle.std.proofs.lemmas.Bool.{false≢true, and_parts}
 use Rattle.ob_tree.specs.declared.pos.Pos.{Pos}
@@ -19,7 +19,7 @@ use Rattle.ob_rules.specs.Shapes.{Map, Member, AField, AMethod, member}
 use Rattle.ob_rules.specs.Names.{Around, map_of, own_desc}
 use Rattle.ob_rules.specs.Operators.{signatures_match}
 use Rattle.ob_rules.specs.Types.{Parameters}
-use Rattle.ob_rules.specs.Headings.{BoundAs, Head, answers, both_sound, signature_if, same_kind, forward_broken, forward_judged, forward_if, forwards_judged, counts_if, counts, counted, Binding, new_method, with_method, change_desc, changed_if, change_type, redefined, redefines, introduced_sound, bind_method, bind_by, bind_one, bind_all, of_record, bind_records, bindings, reversed}
+use Rattle.ob_rules.specs.Headings.{BoundAs, Head, answers, both_sound, signature_if, same_kind, forward_broken, forward_judged, forward_if, forwards_judged, counts_if, counts, counted, Binding, new_method, with_method, change_desc, changed_if, change_type, redefined, redefines, introduced_sound, bind_method, bind_by, bind_one, bind_all, of_record, bind_records, bindings, reversed, differ}
 use Rattle.law_names_procedures.proofs.Judges.{Has, not_empty}
 use Rattle.law_names_procedures.proofs.Knowing.{filter_has}
 use Rattle.law_names_procedures.proofs.Points.{holds, Covers}
@@ -109,7 +109,7 @@ module _ (P : QName → Type 0) (u : Around) where
 
   method_kept : (b : Bool) (map : Map) (st : Binding) (h : Head) (o : BoundAs) (owner : QName) (m : Method) → Kept st.own → Kept (bind_method b u map st h o owner m).own
   method_kept true map st h o owner m k = k
-  method_kept false map st h o owner m k = redefined_kept (introduced_sound u st.bound owner m.name && is_some h.parameters && not (same_kind m.receiver o.receiver && signatures_match map (Some m.signature) (signature_if h.parameters))) st h o k
+  method_kept false map st h o owner m k = redefined_kept (not (same_kind m.receiver o.receiver) || differ map h m (introduced_sound u st.bound owner m.name)) st h o k
 
   by_kept : (map : Map) (st : Binding) (h : Head) (o : BoundAs) (m : Option Member) → Kept st.own → Kept (bind_by u map st h o m).own
   by_kept map st h o None k = change_kept o.owner.object (new_method h o) st.own k
@@ -158,7 +158,7 @@ module _ (u : Around) where
 
   method_signed : (b : Bool) (map : Map) (st : Binding) (h : Head) (o : BoundAs) (owner : QName) (m : Method) → IsJudged h → Added st (bind_method b u map st h o owner m)
   method_signed true map st h o owner m i = λ e. (e, λ s. s)
-  method_signed false map st h o owner m i = redefined_signed (introduced_sound u st.bound owner m.name && is_some h.parameters && not (same_kind m.receiver o.receiver && signatures_match map (Some m.signature) (signature_if h.parameters))) st h o i
+  method_signed false map st h o owner m i = redefined_signed (not (same_kind m.receiver o.receiver) || differ map h m (introduced_sound u st.bound owner m.name)) st h o i
 
   clash_not : (st : Binding) (h : Head) (f : Bool) → h.forward ≡ f → f ≡ false → st.notes.broken ++ (notes_if (not f) rule.DeclaredTwice h.at).broken ≡ [] → ⊥
   clash_not st h true e g q = false≢true (sym g)

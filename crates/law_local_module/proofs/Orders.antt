@@ -26,9 +26,9 @@ use Rattle.ob_rules.specs.Judged.{Judged, Notes, no_notes, notes_if, joined, not
 use Rattle.ob_rules.specs.Names.{Around, map_of, type_named, found_in_scope}
 use Rattle.ob_rules.specs.Shapes.{pointed}
 use Rattle.ob_rules.specs.Expressions.{phrase_of, constant_value}
-use Rattle.ob_rules.specs.Types.{Typing, Written, written, marked, is_module_level, with_types, inner}
-use Rattle.ob_rules.specs.Headings.{BoundAs, silent_base, own_record, received_record, bound_to, owner_of, owner_if, knows_receiver, self_of, heading_of, WrittenHeading, Head, Heads, path_by, forward_name, mark_or_hidden, heading_parameters, head_of, name_twice, declared_head, knows_procedure, known_behind, types_of, add_heading}
-use Rattle.ob_rules.specs.Declarations.{Declared, first_name, twice, declare_if, no_nil, constant_entity, constant_declared, equated, typing_as, type_entity, types_made, type_declared, variable_entity, paired_typing, variable_marked, variables_with, made_in, variables_declared, in_order, Written_procedure, headings_in_order, heads_later}
+use Rattle.ob_rules.specs.Types.{Typing, Written, written, marked, is_module_level, with_types, inner, parameters_in}
+use Rattle.ob_rules.specs.Headings.{BoundAs, silent_base, own_record, received_record, bound_to, owner_of, owner_if, knows_receiver, self_of, heading_of, WrittenHeading, Head, Heads, path_by, forward_name, mark_or_hidden, heading_parameters, head_of, name_twice, declared_head, knows_procedure, known_behind, types_of, add_heading, made_anew, are_there}
+use Rattle.ob_rules.specs.Declarations.{Declared, first_name, twice, declare_if, no_nil, constant_entity, constant_declared, equated, typing_as, type_entity, types_made, type_declared, variable_entity, paired_typing, variable_marked, variables_with, made_in, variables_declared, in_order, Written_procedure, headings_in_order, heads_later, newly, of_new, later_if_new}
 use Rattle.law_local_judged.specs.Agreement.{IsIn}
 use Rattle.law_local_judged.specs.Said.{SaidIn, DesignatorIn}
 use Rattle.law_local_judged.specs.Followed.{beside, Agrees}
@@ -43,9 +43,9 @@ use Rattle.law_local_judged.proofs.Heading.{heading_same}
 use Rattle.law_local_module.specs.Laws.{LeavesIn}
 use Rattle.law_local_module.proofs.Modules.{agree_on}
 use Rattle.law_local_module.specs.DeferredLaws.{LaterIsSaid, ModulesStay}
-use Rattle.law_local_module.proofs.Leaves.{Nil, then_nil, both_nil, made_nil, type_nil}
+use Rattle.law_local_module.proofs.Leaves.{Nil, then_nil, both_nil, made_nil, type_nil, unless_nil}
 use Rattle.law_local_module.proofs.Expressions.{expr_nil}
-use Rattle.law_local_module.proofs.Typings.{mark_nil, constant_nil, Left, left_nil, left_both, left_made, left_pair, parameters_left}
+use Rattle.law_local_module.proofs.Typings.{mark_nil, constant_nil, Left, left_nil, left_both, left_made, left_pair, parameters_left, left_then}
 use Rattle.law_local_module.proofs.Written.{written_left, written_parameters_left}
 use Rattle.law_lists.proofs.Lists.{all_both, back_empty, both_empty, front_empty, none_some, some_same}
 
@@ -95,7 +95,7 @@ variables_grow (d ∷ ds) o u h =
 plain_grows : (f : Around → Declared) → IsPlain f → (u : Around) → AreSound (f u).around.known → AreSound u.known
 plain_grows f (a_constant d x) u h = known_grows (found_in_scope u d.ident.name) u d.ident (constant_entity (both (marked u false d) (constant_value u (phrase_of x) ▷ no_nil (phrase_of x).start)).node) h
 plain_grows f (a_type d n) u h =
-    let j = both (marked u false d) (typing_as u (u.path ++ d.ident.name) (mark_or_hidden (marked u false d).node) (written n) (written n).name) in
+    let j = both (newly u d) (typing_as u (u.path ++ d.ident.name) (mark_or_hidden (newly u d).node) (written n) (written n).name) in
     let w = with_types u (types_made j.node) in
     known_grows (found_in_scope w d.ident.name) w d.ident (type_entity j.node) h
 plain_grows f (variables d ds n) u h =
@@ -113,6 +113,13 @@ module _ (P : QName → Type 0) (s : QName → Option Desc) where
   as_left u a own name m n (Some q) said = left_made P (equated u name m) ((written n).typing u name m false) (written_left P n u s a own name m false) said
   as_left u a own name m n None said = written_left P n u s a own name m false said
 
+  said_new : (u : Around) (x : Ident) (n : Notes) → SaidIn P (of_new u x n) → SaidIn P n
+  said_new u x n said = record { objects = said.objects; types = said.types; lengths = said.lengths }
+
+  new_left : (o : Option Known) (ls : List Later) → AllByRecursion (LaterIn P) ls → AllByRecursion (LaterIn P) (later_if_new o ls)
+  new_left None ls h = h
+  new_left (Some k) ls h = tt
+
   plain_left : (f : Around → Declared) → IsPlain f → (u : Around) → Agrees P u s → OwnIn P u.unit → SaidIn P (f u).part.notes → Left P (f u).part.notes
   plain_left f (a_constant d x) u a own said =
       let p = phrase_of x in
@@ -120,11 +127,12 @@ module _ (P : QName → Type 0) (s : QName → Option Desc) where
       left_nil P (joined j.notes (twice u d.ident)) (both_empty j.notes.later (twice u d.ident).later
       (both_nil (marked u false d) (constant_value u p ▷ no_nil p.start) (mark_nil u false d) (then_nil (constant_value u p) (no_nil p.start) (constant_nil u p (λ v. (expr_nil v x).value)) (λ v. no_nil_nil p.start v))) (twice_nil u d.ident))
   plain_left f (a_type d n) u a own said =
-      let k = marked u false d in
+      let k = newly u d in
       let name = u.path ++ d.ident.name in
       let t = typing_as u name (mark_or_hidden k.node) (written n) (written n).name in
       let j = both k t in
-      left_both P j.notes (twice u d.ident) (left_pair P k t (λ z. left_nil P k.notes (mark_nil u false d)) (as_left u a own name (mark_or_hidden k.node) n (written n).name) (said_left P j.notes (twice u d.ident) said)) (left_nil P (twice u d.ident) (twice_nil u d.ident))
+      let said_j = said_new u d.ident j.notes (said_left P (of_new u d.ident j.notes) (twice u d.ident) said) in
+      left_both P (of_new u d.ident j.notes) (twice u d.ident) (new_left (found_in_scope u d.ident.name) j.notes.later (left_pair P k t (λ z. left_nil P k.notes (mark_nil u false d)) (as_left u a own name (mark_or_hidden k.node) n (written n).name) said_j)) (left_nil P (twice u d.ident) (twice_nil u d.ident))
   plain_left f (variables d ds n) u a own said =
       let name = u.path ++ first_name (d ∷ ds) ++ codes ":" in
       let t = (written n).typing u name mark.Hidden false in
@@ -189,10 +197,13 @@ module _ (P : QName → Type 0) (s : QName → Option Desc) where
       let x = heading_parameters u g forward b in
       let v = knows_receiver (inner u) g.receiver b.node in
       let name = forward_name forward (u.path ++ path_by b.node g.name.ident.name) in
+      let inside = parameters_in v name g.parameters in
       let said_b = said_right P m.notes b.notes (said_left P (both m b).notes x.found.notes said) in
       let agrees = receiver_agrees (inner u) (agrees_inner P u s a) g.receiver b.node (owner_is_in u a g.receiver said_b) in
       left_pair P (both m b) x.found (λ z. left_nil P (both m b).notes (both_nil m b (mark_nil u false g.name) (owner_nil u g.receiver)))
-      (parameters_left P s name g.parameters (written_parameters_follow P h.parameters) (written_parameters_left P h.parameters) v agrees (subst (OwnIn P) (sym (receiver_unit (inner u) g.receiver b.node)) own)) said
+      (left_then P inside.found (made_anew u g.name.ident.«pos»)
+      (parameters_left P s name g.parameters (written_parameters_follow P h.parameters) (written_parameters_left P h.parameters) v agrees (subst (OwnIn P) (sym (receiver_unit (inner u) g.receiver b.node)) own))
+      (λ p e y z. left_nil P (made_anew u g.name.ident.«pos» p).notes (unless_nil (are_there u p.made) rule.DeclaredTwice g.name.ident.«pos» p))) said
 
   declared_left : (t : Bool) (d : Head) (u : Around) → (SaidIn P d.notes → Left P d.notes) → SaidIn P (declared_head t d u).notes → Left P (declared_head t d u).notes
   declared_left true d u h said = left_both P d.notes (broken_at rule.DeclaredTwice d.at) (h (said_left P d.notes (broken_at rule.DeclaredTwice d.at) said)) tt

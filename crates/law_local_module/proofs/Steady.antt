@@ -25,7 +25,7 @@ use Rattle.ob_rules.specs.Names.{Around, map_of, type_desc, own_desc, out_string
 use Rattle.ob_rules.specs.Expressions.{phrase_of, constant_value}
 use Rattle.ob_rules.specs.Types.{Typing, Written, written, is_module_level, marked, with_types}
 use Rattle.ob_rules.specs.Headings.{mark_or_hidden}
-use Rattle.ob_rules.specs.Declarations.{Declared, first_name, declare_if, no_nil, constant_entity, constant_declared, typing_as, type_entity, types_made, type_declared, variable_of, variable_entity, paired_typing, variable_marked, variables_with, made_in, variables_declared, in_order}
+use Rattle.ob_rules.specs.Declarations.{Declared, first_name, declare_if, no_nil, constant_entity, constant_declared, typing_as, type_entity, types_made, type_declared, variable_of, variable_entity, paired_typing, variable_marked, variables_with, made_in, variables_declared, in_order, newly}
 use Rattle.law_names_procedures.specs.Procedures.{IsShown, ShowBases}
 use Rattle.law_names_procedures.proofs.Knowing.{IsKnown, AreKnown, find_has}
 use Rattle.law_names_procedures.proofs.Points.{holds, Covers, front_covers, back_covers, IsLater, PointsWell, points_alike}
@@ -201,7 +201,7 @@ plain_named f (a_constant d x) u n =
     let j = both (marked u false d) (constant_value u (phrase_of x) ▷ no_nil (phrase_of x).start) in
     declared_named (found_in_scope u d.ident.name) u d.ident (constant_entity j.node) (constant_named u.unit d.ident.name j.node) n
 plain_named f (a_type d m) u n =
-    let j = both (marked u false d) (typing_as u (u.path ++ d.ident.name) (mark_or_hidden (marked u false d).node) (written m) (written m).name) in
+    let j = both (newly u d) (typing_as u (u.path ++ d.ident.name) (mark_or_hidden (newly u d).node) (written m) (written m).name) in
     let w = with_types u (types_made j.node) in
     declared_named (found_in_scope w d.ident.name) w d.ident (type_entity j.node) (type_named u.unit d.ident.name j.node) n
 plain_named f (variables d ds m) u n =

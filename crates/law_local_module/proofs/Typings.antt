@@ -24,7 +24,7 @@ use Rattle.ob_rules.specs.declared.entity.Known.{Known}
 use Rattle.ob_rules.specs.declared.values.Valued.{Valued}
 use Rattle.ob_rules.specs.declared.broken.Rule.TheVariants as rule
 use Rattle.ob_rules.specs.declared.broken.Rule.{Rule}
-use Rattle.ob_rules.specs.Judged.{Judged, Notes, if_sound, sound, silent, breaks, both, made, noted, joined, each_sound, also, unless, wants, is_quiet, judge_later, ◌▷◌}
+use Rattle.ob_rules.specs.Judged.{Judged, Notes, if_sound, sound, silent, breaks, both, made, noted, joined, each_sound, also, unless, wants, is_quiet, judge_later, ◌▷◌, behind_quiet}
 use Rattle.ob_rules.specs.Shapes.{record_of, is_open, is_structured, is_pointer}
 use Rattle.ob_rules.specs.Names.{Around, map_of, in_unit, is_among, type_named, found_in_scope}
 use Rattle.ob_rules.specs.Values.{constant_in}
@@ -284,7 +284,7 @@ module _ (P : QName → Type 0) where
         let w = with_made d.around t.node in
         let rest = sections w name (i + length x.names) ss in
         let ps = made (parameters_of u m x.names) t in
-        let front = noted d.notes ps in
+        let front = behind_quiet d.notes ps in
         let pair_said = said_left P (both front rest.found).notes (if_sound (both front rest.found).node (λ q. sound (parameters_joined q.0 q.1))).notes said in
         let said_front = said_left P front.notes rest.found.notes pair_said in
         let said_t = said_left P t.notes (if_sound t.node (λ z. sound (parameters_of u m x.names z))).notes (said_right P d.notes ps.notes said_front) in

@@ -1,7 +1,7 @@
 -- Bound procedures leave the types of the module what they are but for their bound procedures, whose parameters and results are held.
 use Rattle.std.proofs.Common.{◌≡◌, Bool, true, false, List, [], ◌∷◌, ◌++◌, map as each, Option, Some, None, refl, cond}
 use Rattle.std.specs.List.{AllByRecursion, flat_map, filter}
-use Rattle.std.specs.Prelude.{bytes_eq, not, ◌&&◌, is_some, ℕ}
+use Rattle.std.specs.Prelude.{bytes_eq, not, ◌&&◌, is_some, ℕ, ◌||◌}
 use Rattle.ob_tree.specs.declared.names.QName.{QName}
 use Rattle.ob_types.specs.declared.desc.Desc.TheVariants as desc
 use Rattle.ob_types.specs.declared.desc.Method.{Method}
@@ -14,7 +14,7 @@ use Rattle.ob_rules.specs.Shapes.{Map, Member, AField, AMethod, member}
 use Rattle.ob_rules.specs.Names.{Around, map_of}
 use Rattle.ob_rules.specs.Operators.{signatures_match}
 use Rattle.ob_rules.specs.Types.{Parameters}
-use Rattle.ob_rules.specs.Headings.{Head, BoundAs, Binding, signature_if, signature_or_none, new_method, with_method, change_desc, changed_if, change_type, redefined, introduced_sound, bind_method, bind_by, bind_one, bind_all, of_record, bind_records, reversed, counts, counted, bindings, same_kind}
+use Rattle.ob_rules.specs.Headings.{Head, BoundAs, Binding, signature_if, signature_or_none, new_method, with_method, change_desc, changed_if, change_type, redefined, introduced_sound, bind_method, bind_by, bind_one, bind_all, of_record, bind_records, reversed, counts, counted, bindings, same_kind, differ}
 use Rattle.law_local_judged.specs.Agreement.{IsIn, AreIn}
 use Rattle.law_local_judged.proofs.Near.{left_in, right_in}
 use Rattle.law_local_uses.specs.Settled.{core, NamesIn}
@@ -63,7 +63,7 @@ module _ (g : Given) (Q : TypedType → Type 0) (stays : Stays g Q) where
 
   method_ok : (b : Bool) (u : Around) (map : Map) (s : Binding) (h : Head) (b' : BoundAs) (o : QName) (m : Method) → BindingOk s → BindingOk (bind_method b u map s h b' o m)
   method_ok true u map s h b' o m k = k
-  method_ok false u map s h b' o m k = redefined_ok (introduced_sound u s.bound o m.name && is_some h.parameters && not (same_kind m.receiver b'.receiver && signatures_match map (Some m.signature) (signature_if h.parameters))) s h b' k
+  method_ok false u map s h b' o m k = redefined_ok (not (same_kind m.receiver b'.receiver) || differ map h m (introduced_sound u s.bound o m.name)) s h b' k
 
   by_ok : (u : Around) (map : Map) (s : Binding) (h : Head) → IfThere (ParametersOk g) h.parameters → (b : BoundAs) (o : Option Member) → BindingOk s → BindingOk (bind_by u map s h b o)
   by_ok u map s h p b None k = record { own = changed b.owner.object (new_method h b) (signature_held h.parameters p) s.own k.own; notes = k.notes }

@@ -38,7 +38,7 @@ use Rattle.ob_rules.specs.Phrases.{Phrase}
 use Rattle.ob_rules.specs.Types.{Typing, Written, written, Parameters, with_types, is_module_level, marked}
 use Rattle.ob_rules.specs.Statements.{Judging, judging, in_turn}
 use Rattle.ob_rules.specs.Headings.{Head, Heads, BoundAs, Binding, self_by, change_desc, reversed, mark_or_hidden, forwards_judged}
-use Rattle.ob_rules.specs.Declarations.{Contents, no_contents, together, Part, no_part, with_part, only_notes, Declared, declare_if, declare, twice, no_nil, constant_entity, constant_contents, constant_declared, equated, typing_as, type_entity, types_made, type_declared, variable_entity, variable_contents, paired_typing, variable_marked, variables_with, made_in, variables_typed, Written_procedure, Declaration, Plain, Procedure, plain_of, procedure_of, type_name_of, in_order, headings_in_order, pointers_judged, field_judged, all_judged, nothing_later, closing_judged, received_by, around_body, self_parameters, binding_of, bound_to, typed_procedure, types_of_head, procedure_judged, procedures_judged, stmts_in, body_part, with_bound, binding_at, heads_later, block, decl_rule, declaration, is_system, import_entity, import_declared, target_of}
+use Rattle.ob_rules.specs.Declarations.{Contents, no_contents, together, Part, no_part, with_part, only_notes, Declared, declare_if, declare, twice, no_nil, constant_entity, constant_contents, constant_declared, equated, typing_as, type_entity, types_made, type_declared, variable_entity, variable_contents, paired_typing, variable_marked, variables_with, made_in, variables_typed, Written_procedure, Declaration, Plain, Procedure, plain_of, procedure_of, type_name_of, in_order, headings_in_order, pointers_judged, field_judged, all_judged, nothing_later, closing_judged, received_by, around_body, self_parameters, binding_of, bound_to, typed_procedure, types_of_head, procedure_judged, procedures_judged, stmts_in, body_part, with_bound, binding_at, heads_later, block, decl_rule, declaration, is_system, import_entity, import_declared, target_of, newly, of_new}
 use Rattle.law_local_judged.specs.Agreement.{AreIn}
 use Rattle.law_local_files.specs.Tied.{BindingTied}
 use Rattle.law_local_uses.specs.Settled.{core, NamesIn, MeansIn}
@@ -170,7 +170,7 @@ made_named g (Some p) h = h.1.1
 
 type_good : (g : Given) (d : IdentDef) (w : Written) → GoodWritten g w → GoodPlain g (type_declared d w)
 type_good g d w h u f =
-    let m = marked u false d in
+    let m = newly u d in
     let t = typing_as u (u.path ++ d.ident.name) (mark_or_hidden m.node) w w.name in
     let j = both m t in
     let k = both_keep (base g) Anything (TypingOk g) m t (marked_held g u false d) (as_good g u f (u.path ++ d.ident.name) (mark_or_hidden m.node) w h w.name) in
@@ -178,7 +178,7 @@ type_good g d w h u f =
     let v = with_types u ts in
     let n = made_named g j.node k.0 in
     record {
-      part = record { contents = record { types = n; variables = tt; procedures = tt; body = tt; bound = (tt, tt) }; notes = both_name g j.notes (twice u d.ident) k.1 (twice_names g u d.ident) };
+      part = record { contents = record { types = n; variables = tt; procedures = tt; body = tt; bound = (tt, tt) }; notes = both_name g (of_new u d.ident j.notes) (twice u d.ident) k.1 (twice_names g u d.ident) };
       around = declare_fine g (found_in_scope v d.ident.name) v (more_types g u f ts n) d.ident (type_entity j.node) (type_means g j.node k.0);
       own = λ a b. subst (AreThere g) (sym (declare_own (found_in_scope v d.ident.name) v d.ident (type_entity j.node))) (all_both (There g) ts u.own b a);
     }

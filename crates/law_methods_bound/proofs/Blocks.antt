@@ -20,7 +20,7 @@ use Rattle.ob_rules.specs.Phrases.{Phrase}
 use Rattle.ob_rules.specs.Types.{Parameters, Typing, Written, written, is_module_level, marked, with_types}
 use Rattle.ob_rules.specs.Statements.{Judging, judging}
 use Rattle.ob_rules.specs.Headings.{Head, Heads, add_heading, reversed, mark_or_hidden}
-use Rattle.ob_rules.specs.Declarations.{Declared, declare_if, declare, constant_contents, no_nil, constant_declared, equated, typing_as, types_made, type_declared, variable_contents, paired_typing, variables_with, made_in, variables_typed, variables_declared, Written_procedure, Declaration, Plain, Procedure, plain_of, procedure_of, type_name_of, in_order, headings_in_order, around_body, types_of_head, procedure_judged, procedures_judged, block_declared, block, decl_rule, declaration, import_declared, target_of}
+use Rattle.ob_rules.specs.Declarations.{Declared, declare_if, declare, constant_contents, no_nil, constant_declared, equated, typing_as, types_made, type_declared, variable_contents, paired_typing, variables_with, made_in, variables_typed, variables_declared, Written_procedure, Declaration, Plain, Procedure, plain_of, procedure_of, type_name_of, in_order, headings_in_order, around_body, types_of_head, procedure_judged, procedures_judged, block_declared, block, decl_rule, declaration, import_declared, target_of, newly}
 use Rattle.law_methods_described.proofs.Nodes.{Has, then_has, second_has}
 use Rattle.law_methods_bound.proofs.Typings.{IsRaw, AreRaw, IsGood, AreGoodSections, MakesRaw, MakeRaw}
 use Rattle.law_methods_bound.proofs.Written.{written_good, written_parameters_good}
@@ -81,7 +81,7 @@ made_good (Some p) h = h.1
 
 type_good : (d : IdentDef) (w : Written) → IsGood w → GoodPlain (type_declared d w)
 type_good d w g u =
-    let m = marked u false d in
+    let m = newly u d in
     let t = typing_as u (u.path ++ d.ident.name) (mark_or_hidden m.node) w w.name in
     let ts = types_made (both m t).node in
     let k : AreRaw ts = made_good (both m t).node (second_has MakesRaw m t (as_good u (u.path ++ d.ident.name) (mark_or_hidden m.node) w g w.name)) in

@@ -1,6 +1,6 @@
 -- The types of a module before procedures are bound to them say no more than in the end.
 use Rattle.std.proofs.Common.{inl, inr, ℕ, Bool, true, false, List, [], ◌∷◌, Option, Some, None, refl}
-use Rattle.std.specs.Prelude.{◌&&◌, not, bytes_eq, is_some}
+use Rattle.std.specs.Prelude.{◌&&◌, not, bytes_eq, is_some, ◌||◌}
 use Rattle.std.specs.List.{AllByRecursion, filter}
 use Rattle.ob_tree.specs.declared.names.QName.{QName}
 use Rattle.ob_types.specs.declared.desc.Desc.{Desc}
@@ -10,7 +10,7 @@ use Rattle.ob_types.specs.declared.typed.TypedType.{TypedType}
 use Rattle.ob_rules.specs.Shapes.{Map, Member, AField, AMethod, member}
 use Rattle.ob_rules.specs.Names.{Around, map_of}
 use Rattle.ob_rules.specs.Operators.{signatures_match}
-use Rattle.ob_rules.specs.Headings.{BoundAs, Head, Binding, signature_if, same_kind, introduced_sound, new_method, with_method, change_desc, changed_if, change_type, redefined, bind_method, bind_by, bind_one, bind_all, of_record, bind_records}
+use Rattle.ob_rules.specs.Headings.{BoundAs, Head, Binding, signature_if, same_kind, introduced_sound, new_method, with_method, change_desc, changed_if, change_type, redefined, bind_method, bind_by, bind_one, bind_all, of_record, bind_records, differ}
 use Rattle.law_typing_forms.specs.Said.{IsOneOf, IsBoundAmong}
 use Rattle.law_typing_env.specs.Views.{SaysNoMore, IsEarly}
 use Rattle.law_typing_env.proofs.Shown.{part_itself}
@@ -63,7 +63,7 @@ module _ (u : Around) (last : List TypedType) where
 
   method_back : (c : Bool) (map : Map) (st : Binding) (h : Head) (b : BoundAs) (owner : QName) (m : Method) → Later (bind_method c u map st h b owner m).own → Later st.own
   method_back true map st h b owner m k = k
-  method_back false map st h b owner m k = redefined_back (introduced_sound u st.bound owner m.name && is_some h.parameters && not (same_kind m.receiver b.receiver && signatures_match map (Some m.signature) (signature_if h.parameters))) st h b k
+  method_back false map st h b owner m k = redefined_back (not (same_kind m.receiver b.receiver) || differ map h m (introduced_sound u st.bound owner m.name)) st h b k
 
   by_back : (map : Map) (st : Binding) (h : Head) (b : BoundAs) (o : Option Member) → Later (bind_by u map st h b o).own → Later st.own
   by_back map st h b None k = types_back b.owner.object (new_method h b) st.own k

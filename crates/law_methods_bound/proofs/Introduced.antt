@@ -1,6 +1,6 @@
 -- What is bound: the methods of each record are found in it, and each comes from a heading.
 use Rattle.std.proofs.Common.{◌≡◌, ◌≢◌, refl, sym, ap, ◌∙◌, subst, ℕ, suc, Bool, true, false, not, List, [], ◌∷◌, ◌++◌, Option, Some, None, cond, inl, inr}
-use Rattle.std.specs.Prelude.{bytes_eq, ◌&&◌, is_some}
+use Rattle.std.specs.Prelude.{bytes_eq, ◌&&◌, is_some, ◌||◌}
 use Rattle.std.specs.List.{AllByRecursion, find, filter}
 use Rattle.std.proofs.lemmas.Slice.Eq.{bytes_eq-Decides}
 use Rattle.ob_tree.specs.declared.names.QName.{QName}
@@ -14,7 +14,7 @@ use Rattle.ob_rules.specs.Judged.{no_notes}
 use Rattle.ob_rules.specs.Shapes.{Map, Member, AField, AMethod, field_or, own_member, or_in_base, base_record, member_within, member}
 use Rattle.ob_rules.specs.Names.{Around, own_desc}
 use Rattle.ob_rules.specs.Operators.{signatures_match}
-use Rattle.ob_rules.specs.Headings.{Head, BoundAs, Binding, signature_if, same_kind, introduced_sound, change_desc, changed_if, change_type, with_method, new_method, introduce, redefined, bind_method, bind_by, bind_one, bind_all, of_record, bind_records, counted, reversed, bindings}
+use Rattle.ob_rules.specs.Headings.{Head, BoundAs, Binding, signature_if, same_kind, introduced_sound, change_desc, changed_if, change_type, with_method, new_method, introduce, redefined, bind_method, bind_by, bind_one, bind_all, of_record, bind_records, counted, reversed, bindings, differ}
 use Rattle.law_typing_forms.specs.Said.{IsOneOf}
 use Rattle.law_body_context.proofs.Lists.{one_all, all_of}
 use Rattle.law_methods_introduced.proofs.Grown.{DescGrows, none_within, no_field, find_last}
@@ -106,7 +106,7 @@ module _ (u : Around) (cs : List Head) (ready : (h : Head) → IsOneOf cs h → 
 
   method_same : (c : Bool) (map : Map) (s : Binding) (h : Head) (a : BoundAs) (owner : QName) (m : Method) → (bind_method c u map s h a owner m).own ≡ s.own
   method_same true map s h a owner m = refl
-  method_same false map s h a owner m = redefined_same (introduced_sound u s.bound owner m.name && is_some h.parameters && not (same_kind m.receiver a.receiver && signatures_match map (Some m.signature) (signature_if h.parameters))) s h a
+  method_same false map s h a owner m = redefined_same (not (same_kind m.receiver a.receiver) || differ map h m (introduced_sound u s.bound owner m.name)) s h a
 
   by_new : (s : Binding) (h : Head) → IsOneOf cs h → (a : BoundAs) → h.bound ≡ Some a → Kept s.own → (o : Option Member) → member (with_own u s.own) a.owner h.name ≡ o → AreNew s.own s.own → (let n = bind_by u (with_own u s.own) s h a o in AreNew n.own n.own)
   by_new s h i a e kept None f g =
@@ -172,7 +172,7 @@ module _ (u : Around) where
 
   method_own : (c : Bool) (map : Map) (s : Binding) (h : Head) (a : BoundAs) (owner : QName) (m : Method) → (bind_method c u map s h a owner m).own ≡ s.own
   method_own true map s h a owner m = refl
-  method_own false map s h a owner m = redefined_own (introduced_sound u s.bound owner m.name && is_some h.parameters && not (same_kind m.receiver a.receiver && signatures_match map (Some m.signature) (signature_if h.parameters))) s h a
+  method_own false map s h a owner m = redefined_own (not (same_kind m.receiver a.receiver) || differ map h m (introduced_sound u s.bound owner m.name)) s h a
 
   by_says : (s : Binding) (h : Head) (a : BoundAs) (map : Map) (o : Option Member) → Says s.own (bind_by u map s h a o).own
   by_says s h a map None = λ x d n e. grown_says (desc_in s.own x) (desc_in (introduce s h a).own x) (change_grows a.owner.object (new_method h a) s.own x) d n e

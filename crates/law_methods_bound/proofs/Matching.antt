@@ -1,6 +1,6 @@
 -- A procedure matches the method that another record introduces.
 use Rattle.std.proofs.Common.{◌≡◌, inl, inr, ℕ, suc, Bool, true, false, List, [], ◌∷◌, ◌++◌, Option, Some, None, refl, sym, ap, subst, ◌∙◌}
-use Rattle.std.specs.Prelude.{◌&&◌, not, bytes_eq, is_some, cond}
+use Rattle.std.specs.Prelude.{◌&&◌, not, bytes_eq, is_some, cond, ◌||◌}
 use Rattle.std.specs.List.{AllByRecursion, find, filter}
 use Rattle.std.proofs.lemmas.Bool.{false≢true, and_parts}
 use Rattle.std.proofs.lemmas.Slice.Eq.{bytes_eq-Decides}
@@ -18,7 +18,7 @@ use Rattle.ob_rules.specs.Shapes.{Map, Member, AField, AMethod, field_or, own_me
 use Rattle.ob_rules.specs.Names.{Around}
 use Rattle.ob_rules.specs.Operators.{signatures_match}
 use Rattle.ob_rules.specs.Types.{Parameters}
-use Rattle.ob_rules.specs.Headings.{BoundAs, Head, Binding, signature_if, same_kind, sound_in, introduced_sound, new_method, with_method, introduce, redefined, bind_method, bind_by, bind_one, bind_all, of_record, bind_records, counted, bindings, reversed}
+use Rattle.ob_rules.specs.Headings.{BoundAs, Head, Binding, signature_if, same_kind, sound_in, introduced_sound, new_method, with_method, introduce, redefined, bind_method, bind_by, bind_one, bind_all, of_record, bind_records, counted, bindings, reversed, differ}
 use Rattle.law_names_procedures.proofs.Judges.{Has, not_empty}
 use Rattle.law_names_procedures.proofs.Knowing.{filter_has}
 use Rattle.law_local_judged.proofs.Heading.{kept_filter}
@@ -63,11 +63,12 @@ has_some : (o : Option Parameters) → Has (λ p. Unit {0}) o → is_some o ≡ 
 has_some None h = absurd h
 has_some (Some p) h = refl
 
-left_true : (a b x : Bool) → a ≡ true → b ≡ true → (a && b && not x) ≡ false → x ≡ true
-left_true true true true e f g = refl
-left_true true true false e f g = absurd (false≢true (sym g))
-left_true true false x e f g = absurd (false≢true f)
-left_true false b x e f g = absurd (false≢true e)
+left_true : (a b x y : Bool) → a ≡ true → b ≡ true → (not x || (a && b && not y)) ≡ false → (x ≡ true) × (y ≡ true)
+left_true true true true true e f g = (refl, refl)
+left_true true true true false e f g = absurd (false≢true (sym g))
+left_true true true false y e f g = absurd (false≢true (sym g))
+left_true true false x y e f g = absurd (false≢true f)
+left_true false b x y e f g = absurd (false≢true e)
 
 quiet_not : (c : Bool) (st : Binding) (h : Head) (b : BoundAs) → Quiet (redefined c st h b) → c ≡ false
 quiet_not true st h b e = not_empty _ [] (back_empty st.notes.broken (broken_at rule.UnmatchedRedefinition h.at).broken e)
@@ -98,10 +99,8 @@ module _ (u : Around) (last : List TypedType) (h0 : Head) (b0 : BoundAs) (own : 
   method_match st s later p k here there false c quiet q m final never =
       let both : Some (AMethod p k) ≡ Some (AMethod q m) = sym there ∙ final in
       let same : k ≡ m = cc in
-      let test = same_kind k.receiver b0.receiver && signatures_match (at st.own) (Some k.signature) (signature_if h0.parameters) in
-      let none = quiet_not (introduced_sound u st.bound p k.name && is_some h0.parameters && not test) st h0 b0 quiet in
-      let yes = left_true (introduced_sound u st.bound p k.name) (is_some h0.parameters) test (introduced_is u st.bound p k.name s) (has_some h0.parameters judged.1) none in
-      let parts = and_parts (same_kind k.receiver b0.receiver) (signatures_match (at st.own) (Some k.signature) (signature_if h0.parameters)) yes in
+      let none = quiet_not (not (same_kind k.receiver b0.receiver) || differ (at st.own) h0 k (introduced_sound u st.bound p k.name)) st h0 b0 quiet in
+      let parts = left_true (introduced_sound u st.bound p k.name) (is_some h0.parameters) (same_kind k.receiver b0.receiver) (signatures_match (at st.own) (Some k.signature) (signature_if h0.parameters)) (introduced_is u st.bound p k.name s) (has_some h0.parameters judged.1) none in
       record {
         own = st.own;
         early = later;

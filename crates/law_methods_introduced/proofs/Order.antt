@@ -15,7 +15,7 @@ use Rattle.ob_rules.specs.Expressions.{constant_value}
 use Rattle.ob_rules.specs.Phrases.{Phrase}
 use Rattle.ob_rules.specs.Types.{Typing, Written, is_module_level, marked, with_types}
 use Rattle.ob_rules.specs.Headings.{mark_or_hidden}
-use Rattle.ob_rules.specs.Declarations.{Contents, no_contents, Part, Declared, declare_if, declare, constant_contents, no_nil, constant_declared, typing_as, types_made, type_declared, variable_contents, paired_typing, variables_with, made_in, variables_typed, variables_declared, then_declared, in_order, import_declared, target_of}
+use Rattle.ob_rules.specs.Declarations.{Contents, no_contents, Part, Declared, declare_if, declare, constant_contents, no_nil, constant_declared, typing_as, types_made, type_declared, variable_contents, paired_typing, variables_with, made_in, variables_typed, variables_declared, then_declared, in_order, import_declared, target_of, newly}
 use Rattle.law_methods_introduced.proofs.Binding.{Named, named_front, named_back, named_parts}
 use Rattle.law_methods_introduced.proofs.Lists.{Differ, swap, joined_right}
 use Rattle.law_lists.proofs.Lists.{both_empty}
@@ -101,7 +101,7 @@ constant_moves d x u =
 
 pub type_moves : (d : IdentDef) (w : Written) → GoodPlain (type_declared d w)
 type_moves d w u =
-    let m = marked u false d in
+    let m = newly u d in
     let t = typing_as u (u.path ++ d.ident.name) (mark_or_hidden m.node) w w.name in
     types_move u (type_declared d w u).part (type_declared d w u).around (declared (with_types u (types_made (both m t).node)) d.ident _) refl refl
 

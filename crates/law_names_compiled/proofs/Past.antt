@@ -22,7 +22,7 @@ use Rattle.ob_rules.specs.Phrases.{Phrase}
 use Rattle.ob_rules.specs.Expressions.{phrase_of, constant_value}
 use Rattle.ob_rules.specs.Types.{Typing, Written, WrittenSection, written, with_types, marked, inner, mode_of, parameter_as, declare_all, with_made, section_name, sections}
 use Rattle.ob_rules.specs.Headings.{BoundAs, WrittenHeading, Head, Heads, owner_if, knows_receiver, heading_parameters, head_of, leaves_room, name_twice, declared_head, knows_procedure, known_behind, types_of, add_heading, mark_or_hidden}
-use Rattle.ob_rules.specs.Declarations.{Declared, declare_if, no_nil, constant_entity, constant_declared, typing_as, type_entity, types_made, type_declared, variable_entity, paired_typing, variable_marked, variables_with, made_in, first_name, variables_declared, Written_procedure, Declaration, Plain, Procedure, plain_of, in_order, headings_in_order, decl_rule, declaration, is_system, import_entity, import_declared, target_of}
+use Rattle.ob_rules.specs.Declarations.{Declared, declare_if, no_nil, constant_entity, constant_declared, typing_as, type_entity, types_made, type_declared, variable_entity, paired_typing, variable_marked, variables_with, made_in, first_name, variables_declared, Written_procedure, Declaration, Plain, Procedure, plain_of, in_order, headings_in_order, decl_rule, declaration, is_system, import_entity, import_declared, target_of, newly}
 use Rattle.std.specs.Prelude.{codes}
 use Rattle.law_names_types.specs.Once.{HasNoForward}
 use Rattle.law_lists.proofs.Lists.{all_both, all_from}
@@ -90,7 +90,7 @@ constant_past d x n u h =
 
 type_past : (d : IdentDef) (w : Written) → PastPlain (type_declared d w)
 type_past d w n u h =
-    let m = marked u false d in
+    let m = newly u d in
     let j = both m (typing_as u (u.path ++ d.ident.name) (mark_or_hidden m.node) w w.name) in
     let v = with_types u (types_made j.node) in
     declare_past n (found_in_scope v d.ident.name) v d.ident (type_entity j.node) (type_room j.node) h

@@ -28,7 +28,7 @@ use Rattle.ob_rules.specs.Phrases.{Phrase}
 use Rattle.ob_rules.specs.Types.{Parameters, Typing, Written, written, is_module_level, marked, with_types}
 use Rattle.ob_rules.specs.Statements.{Judging, judging}
 use Rattle.ob_rules.specs.Headings.{Head, Heads, Binding, add_heading, reversed, mark_or_hidden}
-use Rattle.ob_rules.specs.Declarations.{Contents, no_contents, together, Part, Declared, declare_if, declare, constant_contents, no_nil, constant_declared, equated, typing_as, types_made, type_declared, variable_contents, paired_typing, variables_with, made_in, variables_typed, variables_declared, Written_procedure, Declaration, Plain, Procedure, plain_of, procedure_of, type_name_of, in_order, headings_in_order, around_body, typed_procedure, types_of_head, procedure_contents, procedure_judged, procedures_judged, block_inside, with_bound, binding_at, block_bound, heads_later, block_headed, block_declared, block, decl_rule, declaration, import_declared, target_of, imports_declared, around_module, module_of, described, all_described, typed_module, if_unbroken}
+use Rattle.ob_rules.specs.Declarations.{Contents, no_contents, together, Part, Declared, declare_if, declare, constant_contents, no_nil, constant_declared, equated, typing_as, types_made, type_declared, variable_contents, paired_typing, variables_with, made_in, variables_typed, variables_declared, Written_procedure, Declaration, Plain, Procedure, plain_of, procedure_of, type_name_of, in_order, headings_in_order, around_body, typed_procedure, types_of_head, procedure_contents, procedure_judged, procedures_judged, block_inside, with_bound, binding_at, block_bound, heads_later, block_headed, block_declared, block, decl_rule, declaration, import_declared, target_of, imports_declared, around_module, module_of, described, all_described, typed_module, if_unbroken, newly}
 use Rattle.law_names_distinct.specs.Fields.{FieldsDiffer, AreApart, FieldsDifferAll}
 use Rattle.law_methods_described.proofs.Nodes.{Has, then_has, second_has}
 use Rattle.law_names_distinct.proofs.FieldTypings.{IsGood, AreGoodSections, MakesApart, MakeApart}
@@ -90,7 +90,7 @@ made_good (Some p) h = h.1
 
 type_good : (d : IdentDef) (w : Written) → IsGood w → GoodPlain (type_declared d w)
 type_good d w g u h =
-    let m = marked u false d in
+    let m = newly u d in
     let t = typing_as u (u.path ++ d.ident.name) (mark_or_hidden m.node) w w.name in
     let k : AreApart (types_made (both m t).node) = made_good (both m t).node (second_has MakesApart m t (as_good u (u.path ++ d.ident.name) (mark_or_hidden m.node) w g w.name)) in
     record { contents = record { types = k; bound = tt }; around = name_declared (with_types u (types_made (both m t).node)) (typed_around u (types_made (both m t).node) k h) d.ident _ }

@@ -27,7 +27,7 @@ use Rattle.ob_rules.specs.Phrases.{Phrase}
 use Rattle.ob_rules.specs.Types.{Typing, Written, written, is_module_level, marked, with_types}
 use Rattle.ob_rules.specs.Statements.{judging}
 use Rattle.ob_rules.specs.Headings.{mark_or_hidden, heading_of}
-use Rattle.ob_rules.specs.Declarations.{Contents, no_contents, first_name, Part, Declared, declare_if, declare, twice, constant_contents, no_nil, constant_declared, equated, typing_as, type_entity, types_made, type_declared, variable_entity, variable_contents, variable_with, variables_with, paired_typing, made_in, variables_typed, variables_declared, Declaration, Plain, Procedure, plain_of, in_order, decl_rule, declaration, import_declared, target_of, behind_part, then_declared}
+use Rattle.ob_rules.specs.Declarations.{Contents, no_contents, first_name, Part, Declared, declare_if, declare, twice, constant_contents, no_nil, constant_declared, equated, typing_as, type_entity, types_made, type_declared, variable_entity, variable_contents, variable_with, variables_with, paired_typing, made_in, variables_typed, variables_declared, Declaration, Plain, Procedure, plain_of, in_order, decl_rule, declaration, import_declared, target_of, behind_part, then_declared, newly}
 use Rattle.law_names_distinct.specs.Distinct.{AreDistinct}
 use Rattle.law_names_distinct.specs.Parts.{IsWord, IsPart}
 use Rattle.law_names_distinct.specs.Named.{is_word, all_true, are_words, type_named, parameters_named, decl_layer, decl_named}
@@ -140,7 +140,7 @@ made_types r (Some p) h = h.1
 pub type_placed : (d : IdentDef) → IsWord d.ident.name → (w : Written) → IsNode w → PlacedPlain (type_declared d w)
 type_placed d word w g u =
     let x = d.ident in
-    let m = marked u false d in
+    let m = newly u d in
     let r = u.path ++ x.name in
     let t = typing_as u r (mark_or_hidden m.node) w w.name in
     let j = both m t in

@@ -16,13 +16,13 @@ use Rattle.ob_types.specs.declared.typed.TypedType.{TypedType}
 use Rattle.ob_types.specs.Tests.{target, shape_at, pointer_of}
 use Rattle.ob_rules.specs.declared.entity.Known.{Known}
 use Rattle.ob_rules.specs.declared.broken.Rule.TheVariants as rule
-use Rattle.ob_rules.specs.Judged.{both, paired}
+use Rattle.ob_rules.specs.Judged.{both, paired, if_sound}
 use Rattle.ob_rules.specs.Shapes.{is_held, pointed, same_name}
 use Rattle.ob_rules.specs.Names.{Around, map_of, type_desc, own_desc, out_string, in_unit, is_among, type_named}
-use Rattle.ob_rules.specs.Types.{Parameters, with_types, is_module_level, marked, inner}
-use Rattle.ob_rules.specs.Headings.{BoundAs, silent_base, is_own, if_own, own_record, received_record, bound_to, owner_of, owner_if, knows_receiver, WrittenHeading, Head, path_by, forward_name, bound_in, as_parameters, heading_parameters, head_of}
+use Rattle.ob_rules.specs.Types.{Parameters, with_types, is_module_level, marked, inner, parameters_in}
+use Rattle.ob_rules.specs.Headings.{BoundAs, silent_base, is_own, if_own, own_record, received_record, bound_to, owner_of, owner_if, knows_receiver, WrittenHeading, Head, path_by, forward_name, bound_in, as_parameters, heading_parameters, head_of, made_anew, are_there}
 use Rattle.law_names_procedures.specs.Procedures.{IsShown, ShowBases}
-use Rattle.law_names_procedures.proofs.Judges.{Has, Speaks, paired_has, has_more, breaks_speaks, then_speaks, made_speaks}
+use Rattle.law_names_procedures.proofs.Judges.{Has, Speaks, paired_has, has_more, breaks_speaks, then_speaks, made_speaks, unless_speaks}
 use Rattle.law_names_procedures.proofs.Knowing.{IsKnown, AreKnown, find_has, filter_has, name_speaks}
 use Rattle.law_names_procedures.proofs.Points.{holds, back_covers, IsLater, PointsWell, ArePointed, Points, points_more, points_alike}
 use Rattle.law_names_procedures.proofs.Typings.{AreWellSections, parameters_well, mark_speaks}
@@ -182,8 +182,11 @@ head_good u w forward g pl k based e =
     let three : s.found.notes.broken ≡ [] = back_empty (m.notes.broken ++ b.notes.broken) s.found.notes.broken e in
     let i : Has Anything m.node = mark_speaks u false w.name (front_empty m.notes.broken b.notes.broken two) in
     let n : Has (IsBoundBy w.receiver) b.node = owner_if_speaks u w.receiver k based (back_empty m.notes.broken b.notes.broken two) in
-    let p = parameters_well v (forward_name forward (u.path ++ path_by b.node w.name.ident.name)) w.parameters g (receiver_known (inner u) w.receiver b.node n k) three in
-    let q : Has (λ p. Points u p.made) s.found.node = has_more (λ p. Points v p.made) (λ p. Points u p.made) s.found.node (λ p h. points_alike (with_types (inner u) p.made) (with_types u p.made) (record { unit = refl; shown = refl; own = refl; later_types = refl; path = refl }) p.made (receiver_points (inner u) w.receiver b.node p.made h)) p.0 in
+    let inside = parameters_in v (forward_name forward (u.path ++ path_by b.node w.name.ident.name)) w.parameters in
+    let at = w.name.ident.«pos» in
+    let p = parameters_well v (forward_name forward (u.path ++ path_by b.node w.name.ident.name)) w.parameters g (receiver_known (inner u) w.receiver b.node n k) (front_empty inside.found.notes.broken (if_sound inside.found.node (made_anew u at)).notes.broken three) in
+    let r : Has (λ p. Points v p.made) s.found.node = then_speaks (λ p. Points v p.made) (λ p. Points v p.made) inside.found (made_anew u at) (λ i. p.0) (λ x i. unless_speaks (λ p. Points v p.made) (are_there u x.made) rule.DeclaredTwice at x i) three in
+    let q : Has (λ p. Points u p.made) s.found.node = has_more (λ p. Points v p.made) (λ p. Points u p.made) s.found.node (λ p h. points_alike (with_types (inner u) p.made) (with_types u p.made) (record { unit = refl; shown = refl; own = refl; later_types = refl; path = refl }) p.made (receiver_points (inner u) w.receiver b.node p.made h)) r in
     let a = bound_is w.receiver b.node n in
     record {
       path = ap (λ x. u.path ++ x) (path_in (IsBoundBy w.receiver) b.node w.name.ident.name n);

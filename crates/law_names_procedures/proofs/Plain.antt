@@ -24,11 +24,11 @@ use Rattle.ob_rules.specs.Expressions.{constant_value}
 use Rattle.ob_rules.specs.Phrases.{Phrase}
 use Rattle.ob_rules.specs.Types.{Typing, Written, is_module_level, marked, with_types}
 use Rattle.ob_rules.specs.Headings.{mark_or_hidden}
-use Rattle.ob_rules.specs.Declarations.{Declared, declare_if, no_nil, constant_entity, constant_contents, constant_declared, equated, typing_as, type_entity, types_made, type_declared, variable_entity, variable_contents, paired_typing, variable_marked, variables_with, made_in, behind_part, variables_declared, first_name, in_order, is_system, target_of, import_entity, import_declared, twice}
+use Rattle.ob_rules.specs.Declarations.{Declared, declare_if, no_nil, constant_entity, constant_contents, constant_declared, equated, typing_as, type_entity, types_made, type_declared, variable_entity, variable_contents, paired_typing, variable_marked, variables_with, made_in, behind_part, variables_declared, first_name, in_order, is_system, target_of, import_entity, import_declared, twice, newly}
 use Rattle.law_names_procedures.proofs.Judges.{Has, Speaks, not_empty, has_more, breaks_speaks, then_speaks, both_speak, made_speaks}
 use Rattle.law_names_procedures.proofs.Knowing.{IsKnown, AreKnown}
 use Rattle.law_names_procedures.proofs.Points.{holds, Covers, holds_join, front_covers, back_covers, PointsWell, Points, points_more, points_one, points_alike}
-use Rattle.law_names_procedures.proofs.Typings.{IsMade, IsWell, constant_speaks, mark_speaks, one_holds}
+use Rattle.law_names_procedures.proofs.Typings.{IsMade, IsWell, constant_speaks, mark_speaks, one_holds, newly_has}
 use Rattle.law_lists.proofs.Lists.{Anything, IfThere, all_both, back_empty, front_empty}
 
 -- What stands around behind a part: more is known, and there are more types, which are made with pointers that have bases. The names are
@@ -113,12 +113,12 @@ types_point u name (Some p) h = h.1
 
 pub type_good : (d : IdentDef) (w : Written) → IsWell w → GoodPlain (Some d.ident.name) (type_declared d w)
 type_good d w g u k e =
-    let m = marked u false d in
+    let m = newly u d in
     let name = u.path ++ d.ident.name in
     let t = typing_as u name (mark_or_hidden m.node) w w.name in
     let j = both m t in
     let f : j.notes.broken ≡ [] = front_empty j.notes.broken (twice u d.ident).broken e in
-    let h : Has (λ p. Unit {0} × IsNamed u name p.1) j.node = both_speak Anything (IsNamed u name) m t (mark_speaks u false d) (as_well u name (mark_or_hidden m.node) w g k w.name refl) f in
+    let h : Has (λ p. Unit {0} × IsNamed u name p.1) j.node = both_speak Anything (IsNamed u name) m t (λ i. newly_has u d (back_empty j.notes.broken (twice u d.ident).broken e) (mark_speaks u false d i)) (as_well u name (mark_or_hidden m.node) w g k w.name refl) f in
     let v = with_types u (types_made j.node) in
     record {
       more = (declare_if (found_in_scope v d.ident.name) v d.ident (type_entity j.node)).known;

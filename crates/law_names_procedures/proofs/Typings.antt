@@ -1,4 +1,5 @@
 -- Types as they are written: where nothing is broken each has a node, its pointers have bases, and what has no other's name has its own.
+use Rattle.ob_rules.specs.Declarations.{twice, newly, if_new}
 use Rattle.std.proofs.Common.{◌≡◌, ℕ, ◌+◌, Bool, true, false, List, [], ◌∷◌, ◌++◌, length, Option, Some, None, refl, sym, ap, subst, ◌∙◌, inl, inr, cond}
 use Rattle.std.specs.Prelude.{pos, suc, not, ◌&&◌, ◌||◌, bytes_eq, is_some, is_none}
 use Rattle.std.specs.List.{AllByRecursion}
@@ -22,8 +23,8 @@ use Rattle.ob_rules.specs.declared.entity.Known.{Known}
 use Rattle.ob_rules.specs.declared.broken.Broken.{Broken}
 use Rattle.ob_rules.specs.declared.values.Valued.{Valued}
 use Rattle.ob_rules.specs.declared.broken.Rule.TheVariants as rule
-use Rattle.ob_rules.specs.Judged.{Judged, if_sound, paired, unless, sound, both, made, each_sound, is_quiet, ◌▷◌, if_quiet, behind_quiet}
-use Rattle.ob_rules.specs.Names.{Around, map_of, own_desc, type_named, in_unit, is_among, is_declared}
+use Rattle.ob_rules.specs.Judged.{Judged, if_sound, paired, unless, sound, both, made, each_sound, is_quiet, ◌▷◌, if_quiet, behind_quiet, notes_if}
+use Rattle.ob_rules.specs.Names.{Around, map_of, own_desc, type_named, in_unit, is_among, is_declared, found_in_scope}
 use Rattle.ob_rules.specs.Values.{constant_in}
 use Rattle.ob_rules.specs.Expressions.{constant_of, constant_if, constant_value}
 use Rattle.ob_rules.specs.Phrases.{Phrase}
@@ -85,6 +86,13 @@ mark_speaks_of false minus at mark.Hidden = λ e. tt
 
 pub mark_speaks : (u : Around) (minus : Bool) (d : IdentDef) → Speaks Anything (marked u minus d)
 mark_speaks u minus d = mark_speaks_of (is_module_level u) minus d.mark_pos d.mark
+
+pub newly_has : (u : Around) (d : IdentDef) → (twice u d.ident).broken ≡ [] → Has Anything (marked u false d).node → Has Anything (newly u d).node
+newly_has u d e h = by (found_in_scope u d.ident.name) e
+  where
+    by : (o : Option Known) → (notes_if (is_some o) rule.DeclaredTwice d.ident.«pos»).broken ≡ [] → Has Anything (if_new o (marked u false d).node)
+    by None e = h
+    by (Some k) e = absurd (not_empty _ [] e)
 
 -- ---- arrays
 
@@ -239,7 +247,7 @@ section_joined u m xs None rest h k = absurd h
 section_joined u m xs (Some t) None h k = absurd k
 section_joined u m xs (Some t) (Some p) h k = points_behind u t.made p.made h k
 
-quiet_is : (bs : List Broken) → bs ≡ [] → is_quiet bs ≡ true
+pub quiet_is : (bs : List Broken) → bs ≡ [] → is_quiet bs ≡ true
 quiet_is [] e = refl
 quiet_is (b ∷ bs) e = absurd cc
 

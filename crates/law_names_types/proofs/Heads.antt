@@ -4,8 +4,8 @@ use Rattle.ob_tree.specs.declared.ident.Mark.{Mark}
 use Rattle.ob_rules.specs.Judged.{both}
 use Rattle.ob_rules.specs.Names.{Around}
 use Rattle.ob_rules.specs.Types.{Parameters, marked, parameters_in, inner}
-use Rattle.ob_rules.specs.Headings.{BoundAs, WrittenHeading, heading_of, as_parameters, owner_if, knows_receiver, forward_name, path_by, head_of}
-use Rattle.law_names_distinct.proofs.Quiet.{any_quiet, both_quiet}
+use Rattle.ob_rules.specs.Headings.{BoundAs, WrittenHeading, heading_of, as_parameters, owner_if, knows_receiver, forward_name, path_by, head_of, anew}
+use Rattle.law_names_distinct.proofs.Quiet.{any_quiet, both_quiet, anew_quiet}
 use Rattle.law_names_distinct.proofs.Typings.{IsOfSection, ParametersIn, AreGoodSections, names_of, parameters_good}
 use Rattle.law_names_distinct.proofs.Written.{written_parameters_good}
 use Rattle.law_names_types.specs.Nested.{IsOfParameter, HeadingsDiffer}
@@ -21,8 +21,8 @@ head_types u h forward g few e =
     let b = owner_if u h.receiver in
     let name = forward_name forward (u.path ++ path_by b.node h.name.ident.name) in
     let start = knows_receiver (inner u) h.receiver b.node in
-    let s = (parameters_in start name h.parameters).found in
-    in_parameters name (both (both m b) s).node (both_quiet Anything (ParametersIn name 1) (both m b) s (any_quiet (both m b)) (parameters_good start name h.parameters g few) e)
+    let s = (anew u h.name.ident.«pos» (parameters_in start name h.parameters)).found in
+    in_parameters name (both (both m b) s).node (both_quiet Anything (ParametersIn name 1) (both m b) s (any_quiet (both m b)) (anew_quiet (ParametersIn name 1) u h.name.ident.«pos» (parameters_in start name h.parameters) (parameters_good start name h.parameters g few)) e)
 
 -- THE TYPES OF A HEADING
 pub headings_differ : HeadingsDiffer

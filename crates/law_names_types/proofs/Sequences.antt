@@ -21,7 +21,7 @@ use Rattle.ob_rules.specs.Phrases.{Phrase}
 use Rattle.ob_rules.specs.Expressions.{phrase_of, constant_value}
 use Rattle.ob_rules.specs.Types.{Typing, Written, written, with_types, is_module_level, marked}
 use Rattle.ob_rules.specs.Headings.{mark_or_hidden}
-use Rattle.ob_rules.specs.Declarations.{Declared, no_nil, twice, constant_contents, constant_declared, equated, typing_as, types_made, type_declared, variable_contents, variable_with, paired_typing, variables_with, made_in, first_name, variables_declared, Declaration, Plain, Procedure, plain_of, in_order, decl_rule, declaration}
+use Rattle.ob_rules.specs.Declarations.{Declared, no_nil, twice, constant_contents, constant_declared, equated, typing_as, types_made, type_declared, variable_contents, variable_with, paired_typing, variables_with, made_in, first_name, variables_declared, Declaration, Plain, Procedure, plain_of, in_order, decl_rule, declaration, newly}
 use Rattle.law_names_distinct.specs.Parts.{IsWord, IsPart}
 use Rattle.law_names_distinct.specs.Named.{is_word, all_true, are_words, type_named, decl_layer, decl_named}
 use Rattle.law_names_distinct.proofs.Parts.{parts_differ}
@@ -99,7 +99,7 @@ made_nested (Some p) h = h.1
 
 type_nested : (d : IdentDef) (w : Written) → IsNode w → IsNested w → NestedPlain (type_declared d w)
 type_nested d w k n u e =
-    let m = marked u false d in
+    let m = newly u d in
     let r = u.path ++ d.ident.name in
     let t = typing_as u r (mark_or_hidden m.node) w w.name in
     let j = both m t in

@@ -19,7 +19,7 @@ use Rattle.ob_rules.specs.Expressions.{phrase_of, constant_value}
 use Rattle.ob_rules.specs.Phrases.{Phrase}
 use Rattle.ob_rules.specs.Types.{Typing, Written, written, marked, with_types}
 use Rattle.ob_rules.specs.Headings.{leaves_room, mark_or_hidden}
-use Rattle.ob_rules.specs.Declarations.{Part, Declared, declare_if, declare, constant_entity, no_nil, constant_declared, typing_as, types_made, type_entity, type_declared, variable_entity, variable_with, variables_with, paired_typing, made_in, first_name, variables_declared, Declaration, Plain, Procedure, plain_of, in_order, decl_rule, declaration, then_declared}
+use Rattle.ob_rules.specs.Declarations.{Part, Declared, declare_if, declare, constant_entity, no_nil, constant_declared, typing_as, types_made, type_entity, type_declared, variable_entity, variable_with, variables_with, paired_typing, made_in, first_name, variables_declared, Declaration, Plain, Procedure, plain_of, in_order, decl_rule, declaration, then_declared, newly}
 use Rattle.law_names_types.specs.Once.{HasNoForward}
 use Rattle.law_names_types.proofs.Items.{IsAmong, in_either, in_front, in_back}
 
@@ -98,7 +98,7 @@ constant_steady d x u =
 
 type_steady : (d : IdentDef) (w : Written) → SteadyPlain (type_declared d w)
 type_steady d w u =
-    let m = marked u false d in
+    let m = newly u d in
     let j = both m (typing_as u (u.path ++ d.ident.name) (mark_or_hidden m.node) w w.name) in
     declared_steady u (with_types u (types_made j.node)) (type_declared d w u).part d.ident (type_entity j.node) refl (λ t i. in_either (types_made j.node) u.own t i) (λ h. h) (type_room j.node)
 

@@ -34,7 +34,7 @@ use Rattle.ob_rules.specs.Phrases.{Phrase}
 use Rattle.ob_rules.specs.Types.{Parameters, Typing, Written, written, is_module_level, marked, with_types}
 use Rattle.ob_rules.specs.Statements.{Judging, judging}
 use Rattle.ob_rules.specs.Headings.{BoundAs, Head, Heads, Binding, self_by, add_heading, reversed, mark_or_hidden}
-use Rattle.ob_rules.specs.Declarations.{Contents, no_contents, together, Part, Declared, declare_if, declare, constant_contents, constant_entity, no_nil, constant_declared, equated, typing_as, types_made, type_entity, type_declared, variable_entity, variable_contents, paired_typing, first_name, variables_with, made_in, variables_typed, variables_declared, Written_procedure, Declaration, Plain, Procedure, plain_of, procedure_of, type_name_of, in_order, headings_in_order, around_body, self_parameters, typed_procedure, types_of_head, procedure_contents, procedure_judged, procedures_judged, block_inside, with_bound, binding_at, block_bound, heads_later, block_headed, block_declared, block, decl_rule, declaration, import_entity, import_declared, target_of, is_system, imports_declared, around_module, module_of, described, all_described, typed_module, if_unbroken}
+use Rattle.ob_rules.specs.Declarations.{Contents, no_contents, together, Part, Declared, declare_if, declare, constant_contents, constant_entity, no_nil, constant_declared, equated, typing_as, types_made, type_entity, type_declared, variable_entity, variable_contents, paired_typing, first_name, variables_with, made_in, variables_typed, variables_declared, Written_procedure, Declaration, Plain, Procedure, plain_of, procedure_of, type_name_of, in_order, headings_in_order, around_body, self_parameters, typed_procedure, types_of_head, procedure_contents, procedure_judged, procedures_judged, block_inside, with_bound, binding_at, block_bound, heads_later, block_headed, block_declared, block, decl_rule, declaration, import_entity, import_declared, target_of, is_system, imports_declared, around_module, module_of, described, all_described, typed_module, if_unbroken, newly}
 use Rattle.law_methods_described.proofs.Nodes.{Has, then_has, second_has}
 use Rattle.law_spelling.specs.Trees.{IsNamed, VariableIsSpelled}
 use Rattle.law_spelling.specs.Raw.{all_true, is_named, all_named, are_named, type_named, parameters_named, heading_named, decl_layer, decl_named}
@@ -130,7 +130,7 @@ type_known (Some p) h = h.1.of
 
 type_ok : (d : IdentDef) (w : Written) → is_named d ≡ true → IsOk w → PlainOk (type_declared d w)
 type_ok d w n g u h =
-    let m = marked u false d in
+    let m = newly u d in
     let name = u.path ++ d.ident.name in
     let t = typing_as u name (mark_or_hidden m.node) w w.name in
     let k = second_has TypingOk m t (as_ok u h name (h.front d.ident.name (named_object d.ident.name n)) (mark_or_hidden m.node) w g w.name) in

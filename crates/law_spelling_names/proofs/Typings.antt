@@ -58,7 +58,7 @@ use Rattle.ob_types.specs.declared.types.Signature.{Signature}
 use Rattle.ob_types.specs.Tests.{target, target_of, follow, shape_at, pointer_of}
 use Rattle.ob_rules.specs.Statements.{Judging, judging, in_turn}
 use Rattle.ob_rules.specs.Headings.{BoundAs, received_record, is_own, if_own, own_record, bound_to, owner_of, owner_if, knows_receiver, WrittenHeading, heading_of, Head, path_by, forward_name, as_parameters, heading_parameters, head_of, entity_as, head_entity, declared_head, knows_procedure, known_behind, Heads, name_twice, types_of, add_heading, reversed, mark_or_hidden}
-use Rattle.ob_rules.specs.Declarations.{Contents, no_contents, together, Declared, declare_if, declare, constant_contents, constant_entity, no_nil, constant_declared, equated, typing_as, types_made, type_entity, type_declared, variable_entity, variable_contents, paired_typing, first_name as first_declared, variables_with, made_in, variables_declared, Written_procedure, Declaration, Plain, Procedure, plain_of, procedure_of, type_name_of, in_order, headings_in_order, around_body, types_of_head, procedure_judged, procedures_judged, stmts_in, block_inside, with_bound, binding_at, block_declared, block, procedure_declaration, decl_rule, declaration, import_entity, import_declared, target_of as target_in_import, is_system, imports_declared, around_module, module_of}
+use Rattle.ob_rules.specs.Declarations.{Contents, no_contents, together, Declared, declare_if, declare, constant_contents, constant_entity, no_nil, constant_declared, equated, typing_as, types_made, type_entity, type_declared, variable_entity, variable_contents, paired_typing, first_name as first_declared, variables_with, made_in, variables_declared, Written_procedure, Declaration, Plain, Procedure, plain_of, procedure_of, type_name_of, in_order, headings_in_order, around_body, types_of_head, procedure_judged, procedures_judged, stmts_in, block_inside, with_bound, binding_at, block_declared, block, procedure_declaration, decl_rule, declaration, import_entity, import_declared, target_of as target_in_import, is_system, imports_declared, around_module, module_of, newly}
 use Rattle.law_lists.proofs.Lists.{IfThere, all_back, all_both, all_from, all_front}
 
 -- ---- lists
@@ -869,7 +869,7 @@ module _ (types : QName → Option Desc) (unit : List ℕ) (shown : QName → Op
 
   type_good : (d : ℕ) (i : IdentDef) (w : Written) → is_short i.ident.name ≡ true → IsNode (276 * d) w → IsPlain d (type_declared i w)
   type_good d i w n g P u f =
-      let m = marked u false i in
+      let m = newly u i in
       let name = u.path ++ i.ident.name in
       let short = short_length i.ident.name n in
       let at : length u.path ≡ length P = ap length f.path in

@@ -25,7 +25,7 @@ use Rattle.ob_rules.specs.Expressions.{phrase_of, constant_value}
 use Rattle.ob_rules.specs.Types.{Typing, Written, written, Parameters, with_types, is_module_level, marked}
 use Rattle.ob_rules.specs.Statements.{judging, in_turn}
 use Rattle.ob_rules.specs.Headings.{Head, Heads, forwards_judged, reversed, mark_or_hidden, types_of}
-use Rattle.ob_rules.specs.Declarations.{import_entity, is_system, Contents, no_contents, together, Declared, declare_if, constant_contents, constant_entity, constant_declared, no_nil, typing_as, type_entity, types_made, type_declared, variable_entity, variable_contents, paired_typing, variable_marked, variables_with, made_in, variables_typed, Written_procedure, Declaration, Plain, Procedure, plain_of, procedure_of, type_name_of, in_order, headings_in_order, around_body, types_of_head, procedure_contents, closing_judged, procedure_judged, procedures_judged, body_part, stmts_in, with_bound, binding_at, all_judged, field_judged, heads_later, block, pointers_judged, decl_rule, declaration, import_declared, target_of, imports_declared, around_module, module_of, name_judged}
+use Rattle.ob_rules.specs.Declarations.{import_entity, is_system, Contents, no_contents, together, Declared, declare_if, constant_contents, constant_entity, constant_declared, no_nil, typing_as, type_entity, types_made, type_declared, variable_entity, variable_contents, paired_typing, variable_marked, variables_with, made_in, variables_typed, Written_procedure, Declaration, Plain, Procedure, plain_of, procedure_of, type_name_of, in_order, headings_in_order, around_body, types_of_head, procedure_contents, closing_judged, procedure_judged, procedures_judged, body_part, stmts_in, with_bound, binding_at, all_judged, field_judged, heads_later, block, pointers_judged, decl_rule, declaration, import_declared, target_of, imports_declared, around_module, module_of, name_judged, newly}
 use Rattle.std.specs.Prelude.{◌&&◌}
 use Rattle.ob_tree.specs.declared.pos.Pos.{Pos}
 use Rattle.ob_tree.specs.declared.expr.Expr.{Expr}
@@ -100,7 +100,7 @@ type_e k (Some p) = tt
 
 type_good : (k : Level) (d : IdentDef) (w : Written) → GoodPlain k (type_declared d w)
 type_good k d w u s h =
-    let m = marked u false d in
+    let m = newly u d in
     let t = typing_as u (u.path ++ d.ident.name) (mark_or_hidden m.node) w w.name in
     let j = both m t in
     let v = with_types u (types_made j.node) in

@@ -1,6 +1,5 @@
 -- Parameters: their sections in turn, their result, and the type that they make.
 use Rattle.std.proofs.Common.{◌≡◌, ℕ, ◌+◌, List, [], ◌∷◌, length, map, Option, Some, None, refl, sym, ap, ◌∙◌}
-use Rattle.std.specs.Option.{option_map}
 use Rattle.ob_tree.specs.declared.ident.Mark.{Mark}
 use Rattle.ob_tree.specs.declared.type_node.Section.{Section}
 use Rattle.ob_tree.specs.declared.type_node.FormalPars.{FormalPars, out-FormalPars}
@@ -14,7 +13,7 @@ use Rattle.ob_rules.specs.Books.{book_after}
 use Rattle.ob_rules.specs.Names.{Around}
 use Rattle.ob_rules.specs.Types.{Typing, Parameters, Written, WrittenFields, WrittenParameters, WrittenSection, Sections, node_rule, fields_rule, parameters_rule, section_rule, written_parameters, mode_of, declare_all, parameters_of, sections, result_of, with_result, parameters_in, inner, typed_as, procedure_type}
 use Rattle.ob_rules.proofs.BookLaws.{after_none, after_joined}
-use Rattle.ob_cdecl_field.specs.ParameterMakes.{no_parameters, join_parameters, result_joined, procedure_made, section_typing, behind_section}
+use Rattle.ob_cdecl_field.specs.ParameterMakes.{no_parameters, join_parameters, result_joined, procedure_made, section_typing, behind_section, section_made}
 use Rattle.ob_cdecl_field.proofs.FieldLaws.{quiet, two_parts}
 use Rattle.ob_cdecl_field.proofs.SectionLaws.{sections_node, sections_notes, join_again}
 use Rattle.ob_cdecl_field.proofs.Scoping.{entered}
@@ -32,10 +31,10 @@ split : (u : Around) (name : List ℕ) (i : ℕ) (s : Section) (more all : List 
 split u name i s more all step = ap (λ w. sections u name i (w ∷ map written_section more)) (sym (section_is s)) ∙ ap (λ ss. sections u name i (map written_section ss)) (sym step)
 
 pub more_sections : (v w : Around) (name : List ℕ) (i j : ℕ) (s : Section) (more all : List Section) (o n p total : Option Parameters)
-    → all ≡ s ∷ more → w ≡ behind_section v name i (section_as s) → j ≡ i + length s.names → p ≡ option_map (parameters_of v (mode_of s.is_var) s.names) (section_typing v name i (section_as s)).node → n ≡ join_parameters o p
+    → all ≡ s ∷ more → w ≡ behind_section v name i (section_as s) → j ≡ i + length s.names → p ≡ section_made v (mode_of s.is_var) s.names (section_typing v name i (section_as s)).node → n ≡ join_parameters o p
     → join_parameters o (sections v name i (map written_section all)).found.node ≡ total → join_parameters n (sections w name j (map written_section more)).found.node ≡ total
 more_sections v w name i j s more all o n p total step ew ej ep en inv =
-    let q = option_map (parameters_of v (mode_of s.is_var) s.names) (section_typing v name i (section_as s)).node in
+    let q = section_made v (mode_of s.is_var) s.names (section_typing v name i (section_as s)).node in
     let r = (sections (behind_section v name i (section_as s)) name (i + length s.names) (map written_section more)).found.node in
     let node_in : Sections → Option Parameters = λ x. x.found.node in
     ap (λ a. join_parameters n (sections a name j (map written_section more)).found.node) ew

@@ -1,6 +1,6 @@
 -- The types that headings of a checked module know, and those that procedures are bound to, are early types of the module.
 use Rattle.std.proofs.Common.{◌≡◌, ◌≢◌, refl, sym, ap, ◌∙◌, subst, Bool, true, false, ℕ, List, [], ◌∷◌, Option, Some, None}
-use Rattle.std.specs.Prelude.{◌&&◌, not, bytes_eq, is_some}
+use Rattle.std.specs.Prelude.{◌&&◌, not, bytes_eq, is_some, ◌||◌}
 use Rattle.std.specs.List.{AllByRecursion, filter}
 use Rattle.ob_tree.specs.declared.names.QName.{QName}
 use Rattle.ob_tree.specs.declared.decl.Module.{Module as Tree}
@@ -13,7 +13,7 @@ use Rattle.ob_rules.specs.Shapes.{Map, Member, AField, AMethod, member}
 use Rattle.ob_rules.specs.Names.{Around, map_of, is_out}
 use Rattle.ob_rules.specs.Operators.{signatures_match}
 use Rattle.ob_rules.specs.Types.{nothing}
-use Rattle.ob_rules.specs.Headings.{BoundAs, Head, Binding, signature_if, same_kind, introduced_sound, new_method, with_method, changed_if, change_type, redefined, bind_method, bind_by, bind_one, bind_all, of_record, bind_records, counted, reversed, bindings}
+use Rattle.ob_rules.specs.Headings.{BoundAs, Head, Binding, signature_if, same_kind, introduced_sound, new_method, with_method, changed_if, change_type, redefined, bind_method, bind_by, bind_one, bind_all, of_record, bind_records, counted, reversed, bindings, differ}
 use Rattle.ob_rules.specs.Declarations.{binding_at}
 use Rattle.law_names_distinct.specs.Distinct.{AreDistinct}
 use Rattle.law_spelling.specs.Raw.{decl_named}
@@ -53,7 +53,7 @@ module _ (u : Around) where
 
   method_differ : (c : Bool) (map : Map) (s : Binding) (h : Head) (b : BoundAs) (owner : QName) (m : Method) → Differ s.own → Differ (bind_method c u map s h b owner m).own
   method_differ true map s h b owner m d = d
-  method_differ false map s h b owner m d = redefined_differ (introduced_sound u s.bound owner m.name && is_some h.parameters && not (same_kind m.receiver b.receiver && signatures_match map (Some m.signature) (signature_if h.parameters))) s h b d
+  method_differ false map s h b owner m d = redefined_differ (not (same_kind m.receiver b.receiver) || differ map h m (introduced_sound u s.bound owner m.name)) s h b d
 
   by_differ : (map : Map) (s : Binding) (h : Head) (b : BoundAs) (o : Option Member) → Differ s.own → Differ (bind_by u map s h b o).own
   by_differ map s h b None d = differ_kept b.owner.object (λ r. with_method r (new_method h b)) s.own d

@@ -30,7 +30,7 @@ use Rattle.ob_rules.specs.Phrases.{Phrase}
 use Rattle.ob_rules.specs.Expressions.{phrase_of, constant_value}
 use Rattle.ob_rules.specs.Types.{Typing, written, with_types, is_module_level, marked}
 use Rattle.ob_rules.specs.Headings.{mark_or_hidden}
-use Rattle.ob_rules.specs.Declarations.{no_contents, together, Declared, declare_if, declare, no_nil, constant_entity, constant_contents, constant_declared, equated, typing_as, type_entity, types_made, type_declared, variable_entity, variable_contents, paired_typing, variables_with, first_name, made_in, variables_typed, variables_declared, Declaration, Plain, Procedure, plain_of, in_order, decl_rule, declaration, is_system, import_entity, import_declared, target_of, around_module}
+use Rattle.ob_rules.specs.Declarations.{no_contents, together, Declared, declare_if, declare, no_nil, constant_entity, constant_contents, constant_declared, equated, typing_as, type_entity, types_made, type_declared, variable_entity, variable_contents, paired_typing, variables_with, first_name, made_in, variables_typed, variables_declared, Declaration, Plain, Procedure, plain_of, in_order, decl_rule, declaration, is_system, import_entity, import_declared, target_of, around_module, newly}
 use Rattle.law_typing_forms.specs.Said.{IsOneOf}
 use Rattle.law_methods_described.proofs.Nodes.{Has, then_has, second_has}
 use Rattle.law_typing.specs.Spelled.{all_true, is_spelled}
@@ -168,7 +168,7 @@ module _ (unit : List ℕ) (shown : QName → Option Desc) (out : is_out unit �
 
   pub type_plain : (d : IdentDef) (n : TypeNode) → type_spelled n ≡ true → IsPlain (type_declared d (written n))
   type_plain d n e u f l =
-      let k = marked u false d in
+      let k = newly u d in
       let t = typing_as u (u.path ++ d.ident.name) (mark_or_hidden k.node) (written n) (written n).name in
       let o = (both k t).node in
       let h = second_has (TypingFine u.own) k t (as_fine n e u f (u.path ++ d.ident.name) (mark_or_hidden k.node) (written n).name) in

@@ -23,7 +23,7 @@ use Rattle.ob_rules.specs.Phrases.{Phrase}
 use Rattle.ob_rules.specs.Expressions.{constant_value}
 use Rattle.ob_rules.specs.Types.{Typing, Written, with_types, is_module_level, marked}
 use Rattle.ob_rules.specs.Headings.{mark_or_hidden}
-use Rattle.ob_rules.specs.Declarations.{no_contents, Part, Declared, declare_if, declare, no_nil, constant_entity, constant_contents, constant_declared, equated, typing_as, type_entity, types_made, type_declared, variable_entity, variable_contents, paired_typing, variables_with, first_name, made_in, variables_declared, in_order, behind_part, is_system, target_of, import_entity, import_declared}
+use Rattle.ob_rules.specs.Declarations.{no_contents, Part, Declared, declare_if, declare, no_nil, constant_entity, constant_contents, constant_declared, equated, typing_as, type_entity, types_made, type_declared, variable_entity, variable_contents, paired_typing, variables_with, first_name, made_in, variables_declared, in_order, behind_part, is_system, target_of, import_entity, import_declared, newly}
 use Rattle.law_methods_described.proofs.Nodes.{Has, then_has, second_has}
 use Rattle.law_typing.specs.Makes.{IfThere}
 use Rattle.law_body_context.specs.Knows.{HasName, Stands, EntityStands}
@@ -120,7 +120,7 @@ module _ (unit : List ℕ) (shown : QName → Option Desc) (out : is_out unit �
 
   pub type_goes : (d : IdentDef) (w : Written) → IsWellOver AnyValue unit shown out w → NamesItself w → IsGoing (type_declared d w)
   type_goes d w g i before u t =
-      let k = marked u false d in
+      let k = newly u d in
       let name = u.path ++ d.ident.name in
       let j = typing_as u name (mark_or_hidden k.node) w w.name in
       let o = (both k j).node in
