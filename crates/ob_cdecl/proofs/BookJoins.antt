@@ -1,5 +1,9 @@
 -- Notebooks that are joined.
-use Rattle.std.proofs.Common.{◌≡◌, ℕ, List, [], ◌++◌, Option, Result, OnOk, refl, sym, ap, ◌∙◌}
+use Rattle.std.specs.Prelude.{is_some}
+use Rattle.ob_rules.specs.declared.entity.Known.{Known}
+use Rattle.ob_tree.specs.declared.ident.Ident.{Ident}
+use Rattle.ob_rules.specs.Names.{Around, found_in_scope}
+use Rattle.std.proofs.Common.{◌≡◌, ℕ, List, [], ◌++◌, Option, Result, OnOk, refl, sym, ap, ◌∙◌, true, false, Some, None}
 use Rattle.ob_tree.specs.declared.names.QName.{QName}
 use Rattle.ob_types.specs.declared.types.TypeRef.{TypeRef}
 use Rattle.ob_types.specs.declared.typed.Designator.{Designator}
@@ -9,7 +13,7 @@ use Rattle.ob_rules.specs.declared.notes.Notebook.{Notebook}
 use Rattle.ob_rules.specs.declared.notes.Later.{Later}
 use Rattle.ob_rules.specs.Judged.{Notes, earlier, least}
 use Rattle.ob_rules.specs.Books.{book_after, empty_book}
-use Rattle.ob_rules.specs.Declarations.{nothing_later}
+use Rattle.ob_rules.specs.Declarations.{nothing_later, of_new, later_if_new}
 use Rattle.ob_rules.proofs.BookLaws.{on_ok}
 
 abbrev both_of : Notebook → Notebook → Notebook
@@ -39,6 +43,22 @@ appended a o c n e f g h i j = same f g h i j ∙ ap (both_of a) e ∙ both_afte
 pub without_later : (o c : Notebook) (n : Notes) → o ≡ book_after empty_book n → c ≡ record o { later = [] } → c ≡ book_after empty_book (nothing_later n)
 unfolding book_after
 without_later o c n e f = let F : Notebook → Notebook = λ x. record x { later = [] } in f ∙ ap F e
+
+-- where a name is not new
+pub forgets : (u : Around) (x : Ident) (o c : Notebook) (n : Notes) → o ≡ book_after empty_book n → is_some (found_in_scope u x.name) ≡ true → c ≡ record o { later = [] } → c ≡ book_after empty_book (of_new u x n)
+forgets u x o c n e b f = by (found_in_scope u x.name) b
+  where
+    by : (k : Option Known) → is_some k ≡ true → c ≡ book_after empty_book (record { broken = n.broken; objects = n.objects; types = n.types; lengths = n.lengths; later = later_if_new k n.later })
+    by None b = absurd cc
+    by (Some k) b = without_later o c n e f
+
+-- where it is new
+pub remembers : (u : Around) (x : Ident) (o : Notebook) (n : Notes) → o ≡ book_after empty_book n → is_some (found_in_scope u x.name) ≡ false → o ≡ book_after empty_book (of_new u x n)
+remembers u x o n e b = by (found_in_scope u x.name) b
+  where
+    by : (k : Option Known) → is_some k ≡ false → o ≡ book_after empty_book (record { broken = n.broken; objects = n.objects; types = n.types; lengths = n.lengths; later = later_if_new k n.later })
+    by None b = e
+    by (Some k) b = absurd cc
 
 pub later_in : (o : Notebook) (n : Notes) → o ≡ book_after empty_book n → o.later ≡ n.later
 unfolding book_after

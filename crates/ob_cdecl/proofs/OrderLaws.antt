@@ -14,7 +14,7 @@ use Rattle.ob_rules.specs.Books.{book_after}
 use Rattle.ob_rules.specs.Names.{Around}
 use Rattle.ob_rules.specs.Types.{Typing, Written, marked, with_types}
 use Rattle.ob_rules.specs.Headings.{mark_or_hidden}
-use Rattle.ob_rules.specs.Declarations.{Declared, Contents, together, behind_part, then_declared, declare, typing_as, types_made, type_entity, type_declared, in_order, plain_of, declaration, variables_with, variable_marked, variable_with, paired_typing}
+use Rattle.ob_rules.specs.Declarations.{Declared, Contents, together, behind_part, then_declared, declare, typing_as, types_made, type_entity, type_declared, in_order, plain_of, declaration, variables_with, variable_marked, variable_with, paired_typing, newly}
 use Rattle.ob_rules.proofs.BookLaws.{after_none, after_joined}
 use Rattle.ob_cdecl.specs.Seen.{holds_types}
 use Rattle.ob_cdecl.specs.Order.{declared_by, plain_declared, plain_in_order, typing_only, type_around}
@@ -123,11 +123,11 @@ sound_contents r ds t u v ts a b c e f g h =
 
 -- TYPES
 
-pub type_around_is : {T F : Type 0} (r : Result T F) (u v w : Around) (d : IdentDef) (n : Written) (m : Option Mark) (o : Option Typing) (x : List ℕ) (k : Mark) → v ≡ u → m ≡ (marked u false d).node → x ≡ u.path ++ d.ident.name → k ≡ mark_or_hidden m → o ≡ (typing_as u x k n n.name).node → OnOk r (w ≡ declare (with_types v (types_made (paired m o))) d.ident (type_entity (paired m o))) → OnOk r (w ≡ type_around d n u)
+pub type_around_is : {T F : Type 0} (r : Result T F) (u v w : Around) (d : IdentDef) (n : Written) (m : Option Mark) (o : Option Typing) (x : List ℕ) (k : Mark) → v ≡ u → m ≡ (newly u d).node → x ≡ u.path ++ d.ident.name → k ≡ mark_or_hidden m → o ≡ (typing_as u x k n n.name).node → OnOk r (w ≡ declare (with_types v (types_made (paired m o))) d.ident (type_entity (paired m o))) → OnOk r (w ≡ type_around d n u)
 unfolding type_around
 type_around_is r u v w d n m o x k ev em ex ek eo h =
     let F : Around → Option (Mark × Typing) → Around = λ a p. declare (with_types a (types_made p)) d.ident (type_entity p) in
-    let M = (marked u false d).node in
+    let M = (newly u d).node in
     let typed : o ≡ (typing_as u (u.path ++ d.ident.name) (mark_or_hidden M) n n.name).node = eo ∙ ap (λ y. (typing_as u y k n n.name).node) ex ∙ ap (λ y. (typing_as u (u.path ++ d.ident.name) y n n.name).node) (ek ∙ ap mark_or_hidden em) in
     let Q : Around → Type 0 = λ y. OnOk r (w ≡ y) in
     subst Q (ap (λ a. F a (paired m o)) ev ∙ ap (F u) (ap (λ y. paired y o) em ∙ ap (paired M) typed)) h

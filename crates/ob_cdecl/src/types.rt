@@ -161,6 +161,7 @@ fn new_mark<E: Imports>(scope: &Scope<'_, E>, book: &mut Notebook, d: &IdentDef)
 }
 
 // A type whose name is not new leaves nothing for later.
+#[tactic(auto, using(crate::proofs::BookJoins::forgets, crate::proofs::BookJoins::remembers))]
 fn forget_later<E: Imports>(alloc: Global, scope: &Scope<'_, E>, notes: &mut Notebook, x: &Ident)
     ensures { (n : Notes) → notes.old ≡ book_after empty_book n → notes.new ≡ book_after empty_book (spec.of_new (around_of E.types scope.now) x.now n) }
 {

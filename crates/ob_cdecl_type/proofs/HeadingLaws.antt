@@ -11,7 +11,7 @@ use Rattle.ob_rules.specs.declared.notes.Notebook.{Notebook}
 use Rattle.ob_rules.specs.Judged.{Notes, paired, if_sound, sound}
 use Rattle.ob_rules.specs.Books.{book_after}
 use Rattle.ob_rules.specs.Names.{Around}
-use Rattle.ob_rules.specs.Types.{Typing, Parameters, Written, WrittenFields, WrittenParameters, WrittenSection, Sections, node_rule, fields_rule, parameters_rule, section_rule, written_parameters, mode_of, declare_all, parameters_of, sections, result_of, with_result, parameters_in, inner, typed_as, procedure_type}
+use Rattle.ob_rules.specs.Types.{Typing, Parameters, Written, WrittenFields, WrittenParameters, WrittenSection, Sections, node_rule, fields_rule, parameters_rule, section_rule, written_parameters, mode_of, declare_all, sections, result_of, with_result, parameters_in, inner, typed_as, procedure_type}
 use Rattle.ob_rules.proofs.BookLaws.{after_none, after_joined}
 use Rattle.ob_cdecl_field.specs.ParameterMakes.{no_parameters, join_parameters, result_joined, procedure_made, section_typing, behind_section, section_made}
 use Rattle.ob_cdecl_field.proofs.FieldLaws.{quiet, two_parts}

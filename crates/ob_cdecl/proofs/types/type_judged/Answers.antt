@@ -11,4 +11,4 @@ returns-clause-around g c =
     let u = around_of g.E.Types.types c.args.scope.now in
     let v = around_of g.E.Types.types c.typing_as.new.scope in
     let w = around_of g.E.Types.types c.declare_type.new.scope in
-    type_around_is c.declare_type.result u v w c.args.d.now (written c.args.node.now) c.check_mark-mark.result (option_map typing_of c.in_ok-t.t) c.as_bytes.result.now c.mark_or_hidden.result c.in_ok-t.ensures.stays c.check_mark-mark.ensures.made (c.as_bytes.ensures ∙ c.in_ok-name.ensures) c.mark_or_hidden.ensures c.in_ok-t.ensures.made c.declare_type.ensures.around
+    type_around_is c.declare_type.result u v w c.args.d.now (written c.args.node.now) c.new_mark-mark.result (option_map typing_of c.in_ok-t.t) c.as_bytes.result.now c.mark_or_hidden.result c.in_ok-t.ensures.stays c.new_mark-mark.ensures.made (c.as_bytes.ensures ∙ c.in_ok-name.ensures) c.mark_or_hidden.ensures c.in_ok-t.ensures.made c.declare_type.ensures.around
