@@ -22,7 +22,7 @@ use Rattle.ob_types.specs.declared.typed.TypedParameter.{TypedParameter}
 use Rattle.ob_types.specs.Tests.{target, pointer_of}
 use Rattle.ob_rules.specs.declared.entity.Known.{Known}
 use Rattle.ob_rules.specs.declared.broken.Rule.TheVariants as rule
-use Rattle.ob_rules.specs.Judged.{Judged, if_sound, paired, sound, both, made, noted, unless, ◌▷◌, behind_quiet}
+use Rattle.ob_rules.specs.Judged.{Judged, if_sound, paired, sound, both, made, noted, unless, ◌▷◌, behind_quiet, is_quiet, if_quiet}
 use Rattle.ob_rules.specs.Shapes.{Map, shape, record_at, record_of, record_if, pointed, pointed_record, array_at, open_at, is_structured, by_value, by_var, passing_of}
 use Rattle.ob_rules.specs.Names.{Around, map_of, type_named, is_out}
 use Rattle.ob_rules.specs.Types.{Typing, Written, with_types, section_name, Parameters, WrittenSection, WrittenParameters, mode_of, parameter_as, knows, declare_all, parameters_of, parameters_joined, with_made, with_result, sections, result_fits, result_of, first_of, parameters_in, inner, is_module_level}
@@ -168,7 +168,11 @@ module _ (unit : List ℕ) (shown : QName → Option Desc) (out : is_out unit �
 
       by : (o : Option Typing) → IfThere (Typed u.own) o → ((v : Around) → Fair v → Has (ArePassed v.own) (sections v name (i + length s.names) ss).found)
           → Has (ArePassed u.own) (both (behind_quiet (declare_all u (mode_of s.is_var) o s.names).notes (made (parameters_of u (mode_of s.is_var) s.names) (record { node = o; notes = t.notes }))) (sections (with_made (declare_all u (mode_of s.is_var) o s.names).around o) name (i + length s.names) ss).found ▷ λ q. sound (parameters_joined q.0 q.1))
-      by None h r = tt
+      by None h r = none (is_quiet (declare_all u (mode_of s.is_var) None s.names).notes.broken)
+        where
+          none : (q : Bool) → IfThere (ArePassed u.own) (if_sound (paired (if_quiet q None) (sections (declare_all u (mode_of s.is_var) None s.names).around name (i + length s.names) ss).found.node) (λ q. sound (parameters_joined q.0 q.1))).node
+          none true = tt
+          none false = tt
       by (Some x) h r =
           let m = mode_of s.is_var in
           let d = (declare_all u m (Some x) s.names).around in
