@@ -151,9 +151,10 @@ module _ (unit : List ℕ) (shown : QName → Option Desc) (out : is_out unit �
         result = tt;
       }
 
-  second : (own more : List TypedType) (a : Parameters) (o : Option Parameters) → IfThere (ArePassed more) o → ((q : Parameters) → ArePassed more q → ArePassed own (parameters_joined a q)) → IfThere (ArePassed own) (if_sound (paired (Some a) o) (λ q. sound (parameters_joined q.0 q.1))).node
-  second own more a None h k = tt
-  second own more a (Some q) h k = k q h
+  second : (own more : List TypedType) (a : Parameters) (quiet : Bool) (o : Option Parameters) → IfThere (ArePassed more) o → ((q : Parameters) → ArePassed more q → ArePassed own (parameters_joined a q)) → IfThere (ArePassed own) (if_sound (paired (if_quiet quiet (Some a)) o) (λ q. sound (parameters_joined q.0 q.1))).node
+  second own more a false o h k = tt
+  second own more a true None h k = tt
+  second own more a true (Some q) h k = k q h
 
   pub sections_passed : (ss : List WrittenSection) → GoodSections ss → (u : Around) → Fair u → (name : List ℕ) (i : ℕ) → Has (ArePassed u.own) (sections u name i ss).found
   sections_passed [] g u f name i = record { made = tt; aliases = tt; passed = tt; result = tt }
@@ -182,7 +183,7 @@ module _ (unit : List ℕ) (shown : QName → Option Desc) (out : is_out unit �
           let rest : Has (ArePassed (x.made ++ u.own)) (sections v name (i + length s.names) ss).found = subst (λ own. Has (ArePassed (x.made ++ own)) (sections v name (i + length s.names) ss).found) same (r v fair) in
           let a = parameters_of u m s.names x in
           let first : ArePassed u.own a = record { made = h.made; aliases = h.aliases; passed = names_passed u f m x h s.names; result = tt } in
-          second u.own (x.made ++ u.own) a (sections v name (i + length s.names) ss).found.node rest (λ q k. joined_passed u.own a q first k)
+          second u.own (x.made ++ u.own) a (is_quiet (declare_all u m (Some x) s.names).notes.broken) (sections v name (i + length s.names) ss).found.node rest (λ q k. joined_passed u.own a q first k)
 
   -- what is known behind sections is what was known before, and parameters
   all_known : (own : List TypedType) (u : Around) (m : Mode) (t : Option Typing) (xs : List Ident) → KnownIn own u.known → KnownIn own (declare_all u m t xs).around.known
