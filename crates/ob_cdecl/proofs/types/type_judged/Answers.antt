@@ -17,5 +17,5 @@ pub returns-clause-noted : goal.returns-clause-noted
 returns-clause-noted g c =
     let u = around_of g.E.Types.types c.args.scope.now in
     let v = around_of g.E.Types.types c.typing_as.new.scope in
-    type_noted c.declare_type.result u v c.args.d.now (written c.args.node.now) c.new_mark-mark.result c.as_bytes.result.now c.mark_or_hidden.result c.new-notes.result c.new_mark.new.book c.typing_as.new.book c.args.book.now c.keep_notes.new.book c.declare_type.new.book
+    type_noted c.declare_type.result u v c.args.d.now (written c.args.node.now) c.new_mark-mark.result c.as_bytes.result.now c.mark_or_hidden.result c.new-notes.result c.new_mark-mark.new.book c.typing_as.new.book c.args.book.now c.keep_notes.new.book c.declare_type.new.book
     c.new-notes.ensures c.new_mark-mark.ensures.noted c.new_mark-mark.ensures.made (c.as_bytes.ensures ∙ c.in_ok-name.ensures) c.mark_or_hidden.ensures c.in_ok-t.ensures.noted c.in_ok-t.ensures.stays c.in_ok-keep_notes.ensures c.declare_type.ensures.noted
