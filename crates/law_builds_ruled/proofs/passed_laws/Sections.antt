@@ -22,7 +22,7 @@ use Rattle.ob_types.specs.declared.typed.TypedParameter.{TypedParameter}
 use Rattle.ob_types.specs.Tests.{target, pointer_of}
 use Rattle.ob_rules.specs.declared.entity.Known.{Known}
 use Rattle.ob_rules.specs.declared.broken.Rule.TheVariants as rule
-use Rattle.ob_rules.specs.Judged.{Judged, if_sound, paired, sound, both, made, noted, unless, ◌▷◌, behind_quiet, is_quiet, if_quiet}
+use Rattle.ob_rules.specs.Judged.{Judged, if_sound, paired, sound, both, made, unless, ◌▷◌, behind_quiet, is_quiet, if_quiet}
 use Rattle.ob_rules.specs.Shapes.{Map, shape, record_at, record_of, record_if, pointed, pointed_record, array_at, open_at, is_structured, by_value, by_var, passing_of}
 use Rattle.ob_rules.specs.Names.{Around, map_of, type_named, is_out}
 use Rattle.ob_rules.specs.Types.{Typing, Written, with_types, section_name, Parameters, WrittenSection, WrittenParameters, mode_of, parameter_as, knows, declare_all, parameters_of, parameters_joined, with_made, with_result, sections, result_fits, result_of, first_of, parameters_in, inner, is_module_level}
