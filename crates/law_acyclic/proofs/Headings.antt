@@ -19,7 +19,7 @@ use Rattle.ob_types.specs.declared.typed.TypedType.{TypedType}
 use Rattle.ob_rules.specs.declared.notes.Later.{Later}
 use Rattle.ob_rules.specs.declared.notes.Later.TheVariants as later
 use Rattle.ob_rules.specs.declared.entity.Known.{Known}
-use Rattle.ob_rules.specs.Judged.{joined, paired, made, if_sound}
+use Rattle.ob_rules.specs.Judged.{joined, paired, made, if_sound, Judged}
 use Rattle.ob_rules.specs.Shapes.{Map, Member, AField, AMethod, member, is_record, is_structured}
 use Rattle.ob_rules.specs.Names.{Around, map_of, is_among, in_unit, is_out, type_named}
 use Rattle.ob_rules.specs.Types.{Parameters, with_types, marked, inner, parameters_in}

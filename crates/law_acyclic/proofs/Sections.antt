@@ -15,7 +15,7 @@ use Rattle.ob_types.specs.declared.typed.TypedType.{TypedType}
 use Rattle.ob_rules.specs.declared.notes.Later.{Later}
 use Rattle.ob_rules.specs.declared.entity.Known.{Known}
 use Rattle.ob_rules.specs.declared.broken.Rule.TheVariants as rule
-use Rattle.ob_rules.specs.Judged.{Judged, Notes, if_sound, paired, sound, both, made, noted, is_quiet, if_quiet, behind_quiet}
+use Rattle.ob_rules.specs.Judged.{Judged, Notes, if_sound, paired, sound, both, made, is_quiet, if_quiet, behind_quiet}
 use Rattle.ob_rules.specs.Shapes.{is_structured}
 use Rattle.ob_rules.specs.Names.{Around, map_of, type_named, found_in_scope, is_out}
 use Rattle.ob_rules.specs.Types.{Typing, typed_as, with_types, section_name, first_of, Parameters, WrittenSection, WrittenParameters, Sections, mode_of, twice_if, parameter_as, knows, declare_all, parameters_of, parameters_joined, behind_section, with_made, section, sections, result_fits, result_of, with_result, parameters_in, inner, procedure_type}

@@ -244,13 +244,27 @@ module _ (IsConstant : Value → Type 0) (unit : List ℕ) (shown : QName → Op
   module _ (m : Mode) (xs : List Ident) (rest : Around → Sections) (good : (v : Around) → K v → SectionsAre v.own v.scope v.known (rest v)) where
     -- behind the names of the section, at the known names behind them
     behind_is : (u : Around) → K u → (o : Option Typing) (n s : Notes) → IfThere (TypingIs IsConstant unit shown out u.own) o → SectionsAre u.own u.scope u.known (behind_section (made (parameters_of u m xs) (record { node = o; notes = n })) s (rest (with_made (record u { known = (declare_all u m o xs).around.known }) o)))
-    behind_is u k None n s h =
-        let v : Around = record u { known = (declare_all u m None xs).around.known } in
-        let r = good v (around_known u k m None tt xs) in
-        record {
+    behind_is u k None n s h = by (is_quiet s.broken)
+      where
+        v : Around
+        v = record u { known = (declare_all u m None xs).around.known }
+
+        r : SectionsAre v.own v.scope v.known (rest v)
+        r = good v (around_known u k m None tt xs)
+
+        front : Bool → Judged Parameters
+        front q = record { node = if_quiet q None; notes = joined s (made (parameters_of u m xs) (record { node = None; notes = n })).notes }
+
+        by : (q : Bool) → SectionsAre u.own u.scope u.known (record { found = both (front q) (rest v).found ▷ λ q. sound (parameters_joined q.0 q.1); known = (rest v).known })
+        by true = record {
           found = tt;
           known = λ P g f. r.known P (names_known P m None u u.known xs g (λ x ls i. f (record { name = x.name; scope = u.scope; what = entity.Unsound }) refl tt)) (λ x e i. f x e (entity_none u.own u.own (rest v).found.node x.what i));
         }
+        by false = record {
+          found = tt;
+          known = λ P g f. r.known P (names_known P m None u u.known xs g (λ x ls i. f (record { name = x.name; scope = u.scope; what = entity.Unsound }) refl tt)) (λ x e i. f x e (entity_none u.own u.own (rest v).found.node x.what i));
+        }
+
     behind_is u k (Some t) n s h = by (is_quiet s.broken)
       where
         v : Around

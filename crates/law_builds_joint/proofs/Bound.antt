@@ -1,6 +1,6 @@
 -- The bound procedures that records introduce have different names, once all is bound.
 use Rattle.std.proofs.Common.{◌≡◌, ◌≢◌, refl, sym, ◌∙◌, subst, ℕ, Bool, true, false, not, List, [], ◌∷◌, ◌++◌, Option, Some, None, cond, inl, inr}
-use Rattle.std.specs.Prelude.{bytes_eq, ◌&&◌, is_some, ◌||◌}
+use Rattle.std.specs.Prelude.{bytes_eq, ◌&&◌, ◌||◌}
 use Rattle.std.specs.List.{AllByRecursion, find, filter}
 use Rattle.std.proofs.lemmas.Slice.Eq.{bytes_eq-Decides}
 use Rattle.ob_tree.specs.declared.names.QName.{QName}
@@ -13,8 +13,7 @@ use Rattle.ob_types.specs.declared.typed.TypedType.{TypedType}
 use Rattle.ob_rules.specs.Judged.{no_notes}
 use Rattle.ob_rules.specs.Shapes.{Map, Member, AField, AMethod, own_member, member}
 use Rattle.ob_rules.specs.Names.{Around}
-use Rattle.ob_rules.specs.Operators.{signatures_match}
-use Rattle.ob_rules.specs.Headings.{Head, BoundAs, Binding, signature_if, same_kind, introduced_sound, change_desc, changed_if, change_type, with_method, new_method, introduce, redefined, bind_method, bind_by, bind_one, bind_all, of_record, bind_records, counted, reversed, bindings, differ}
+use Rattle.ob_rules.specs.Headings.{Head, BoundAs, Binding, same_kind, introduced_sound, change_desc, changed_if, change_type, with_method, new_method, introduce, redefined, bind_method, bind_by, bind_one, bind_all, of_record, bind_records, counted, reversed, bindings, differ}
 use Rattle.law_typing_forms.specs.Said.{IsOneOf}
 use Rattle.law_methods_introduced.proofs.Grown.{none_within, no_field}
 use Rattle.law_methods_introduced.proofs.Binding.{desc_in, at_own}

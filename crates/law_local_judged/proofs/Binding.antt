@@ -13,7 +13,6 @@ use Rattle.ob_rules.specs.Judged.{notes_if, joined, no_notes}
 use Rattle.ob_rules.specs.Shapes.{Map, Member, AField, AMethod, member}
 use Rattle.ob_rules.specs.Names.{Around, map_of}
 use Rattle.ob_rules.specs.Types.{Parameters}
-use Rattle.ob_rules.specs.Operators.{signatures_match}
 use Rattle.ob_rules.specs.Headings.{BoundAs, Head, same_kind, same_receiver, signature_if, both_sound, forward_broken, forward_if, forwards_judged, answers, counts, counted, Binding, new_method, with_method, change_desc, changed_if, change_type, redefined, introduced_sound, bind_method, bind_by, bind_one, bind_all, of_record, bind_records, reversed, bindings, differ}
 use Rattle.law_local_judged.specs.Agreement.{DescIn, Agree}
 use Rattle.law_local_judged.specs.Said.{SignatureIn}

@@ -12,7 +12,7 @@ use Rattle.ob_types.specs.declared.types.TypeRef.{TypeRef}
 use Rattle.ob_types.specs.declared.desc.Desc.{Desc}
 use Rattle.ob_rules.specs.declared.entity.Entity.TheVariants as entity
 use Rattle.ob_rules.specs.declared.broken.Rule.TheVariants as rule
-use Rattle.ob_rules.specs.Judged.{silent, breaks, both, unless, if_sound, ◌▷◌}
+use Rattle.ob_rules.specs.Judged.{silent, breaks, both, unless, if_sound, ◌▷◌, Judged}
 use Rattle.ob_rules.specs.Shapes.{pointed}
 use Rattle.ob_rules.specs.Names.{Around, map_of, in_unit, type_named}
 use Rattle.ob_rules.specs.Types.{Parameters, Sections, is_module_level, marked, parameters_in, inner, with_types}

@@ -1,5 +1,5 @@
 -- Formal parameters as they are written, with other interfaces around.
-use Rattle.std.proofs.Common.{◌≡◌, refl, sym, ap, ◌∙◌, subst, ℕ, ◌+◌, List, [], ◌∷◌, ◌++◌, map, length, Option, Some, None, true}
+use Rattle.std.proofs.Common.{◌≡◌, refl, sym, ap, ◌∙◌, subst, ℕ, ◌+◌, List, [], ◌∷◌, ◌++◌, map, length, Option, Some, None, true, Bool, false}
 use Rattle.std.specs.List.{AllByRecursion}
 use Rattle.ob_tree.specs.declared.names.QName.{QName}
 use Rattle.ob_tree.specs.declared.ident.Ident.{Ident}
@@ -30,7 +30,7 @@ use Rattle.law_local_judged.specs.Declared.{TypingIn, OwnIn}
 use Rattle.law_local_judged.specs.Headed.{ParametersIn, KnownIn}
 use Rattle.law_local_judged.proofs.Typings.{TF, WrittenFollows, agrees_with}
 use Rattle.std.specs.Prelude.{◌||◌}
-use Rattle.law_lists.proofs.Lists.{all_both}
+use Rattle.law_lists.proofs.Lists.{all_both, none_some}
 
 made_same : {A B : Type 0} (f g : A → B) (j : Judged A) (x : A) → j.node ≡ Some x → g x ≡ f x → made g j ≡ made f j
 made_same {A} {B} f g j x e k = ap (λ o. noted j.notes (if_sound o (λ x. sound (g x)))) e ∙ (ap (λ y. noted j.notes (sound y)) k ∙ sym (ap (λ o. noted j.notes (if_sound o (λ x. sound (f x)))) e))

@@ -1,6 +1,6 @@
 -- What headings redefine is found when all that is bound is known.
 use Rattle.std.proofs.Common.{◌≡◌, refl, sym, ap, subst, ℕ, Bool, true, false, not, List, [], ◌∷◌, Option, Some, None}
-use Rattle.std.specs.Prelude.{◌&&◌, bytes_eq, is_some, ◌||◌}
+use Rattle.std.specs.Prelude.{◌&&◌, bytes_eq, ◌||◌}
 use Rattle.std.specs.List.{AllByRecursion, filter}
 use Rattle.ob_tree.specs.declared.names.QName.{QName}
 use Rattle.ob_types.specs.declared.desc.Method.{Method}
@@ -8,8 +8,7 @@ use Rattle.ob_types.specs.declared.typed.TypedType.{TypedType}
 use Rattle.ob_rules.specs.Judged.{no_notes}
 use Rattle.ob_rules.specs.Shapes.{Map, Member, AField, AMethod, member}
 use Rattle.ob_rules.specs.Names.{Around, map_of}
-use Rattle.ob_rules.specs.Operators.{signatures_match}
-use Rattle.ob_rules.specs.Headings.{BoundAs, Head, signature_if, same_kind, counted, Binding, new_method, with_method, change_type, redefined, introduced_sound, bind_method, bind_by, bind_one, bind_all, of_record, bind_records, bindings, reversed, differ}
+use Rattle.ob_rules.specs.Headings.{BoundAs, Head, same_kind, counted, Binding, new_method, with_method, change_type, redefined, introduced_sound, bind_method, bind_by, bind_one, bind_all, of_record, bind_records, bindings, reversed, differ}
 use Rattle.law_local_judged.specs.Said.{SignatureIn}
 use Rattle.law_local_judged.specs.Headed.{StepIn, StepsIn, RecordsIn, BindingsIn}
 use Rattle.law_local_judged.proofs.Heading.{kept_filter}

@@ -17,7 +17,6 @@ use Rattle.ob_rules.specs.declared.broken.Rule.{Rule}
 use Rattle.ob_rules.specs.Judged.{notes_if, broken_at, no_notes}
 use Rattle.ob_rules.specs.Shapes.{Map, Member, AField, AMethod, member}
 use Rattle.ob_rules.specs.Names.{Around, map_of, own_desc}
-use Rattle.ob_rules.specs.Operators.{signatures_match}
 use Rattle.ob_rules.specs.Types.{Parameters}
 use Rattle.ob_rules.specs.Headings.{BoundAs, Head, answers, both_sound, signature_if, same_kind, forward_broken, forward_judged, forward_if, forwards_judged, counts_if, counts, counted, Binding, new_method, with_method, change_desc, changed_if, change_type, redefined, redefines, introduced_sound, bind_method, bind_by, bind_one, bind_all, of_record, bind_records, bindings, reversed, differ}
 use Rattle.law_names_procedures.proofs.Judges.{Has, not_empty}

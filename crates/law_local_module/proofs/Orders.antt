@@ -1,4 +1,5 @@
 -- What declarations and headings in their order leave for later is among the names.
+use Rattle.ob_rules.specs.declared.notes.Later.{Later}
 use Rattle.std.proofs.Common.{◌≡◌, refl, sym, ap, ◌∙◌, subst, ℕ, Bool, true, false, List, [], ◌∷◌, ◌++◌, Option, Some, None, codes}
 use Rattle.std.specs.Prelude.{◌&&◌}
 use Rattle.std.specs.List.{AllByRecursion}

@@ -1,7 +1,7 @@
 -- Bound procedures leave the types of the module what they are but for their bound procedures, whose parameters and results are held.
 use Rattle.std.proofs.Common.{◌≡◌, Bool, true, false, List, [], ◌∷◌, ◌++◌, map as each, Option, Some, None, refl, cond}
 use Rattle.std.specs.List.{AllByRecursion, flat_map, filter}
-use Rattle.std.specs.Prelude.{bytes_eq, not, ◌&&◌, is_some, ℕ, ◌||◌}
+use Rattle.std.specs.Prelude.{bytes_eq, not, ◌&&◌, ℕ, ◌||◌}
 use Rattle.ob_tree.specs.declared.names.QName.{QName}
 use Rattle.ob_types.specs.declared.desc.Desc.TheVariants as desc
 use Rattle.ob_types.specs.declared.desc.Method.{Method}
@@ -12,7 +12,6 @@ use Rattle.ob_rules.specs.declared.broken.Rule.TheVariants as rule
 use Rattle.ob_rules.specs.Judged.{notes_if, broken_at, no_notes}
 use Rattle.ob_rules.specs.Shapes.{Map, Member, AField, AMethod, member}
 use Rattle.ob_rules.specs.Names.{Around, map_of}
-use Rattle.ob_rules.specs.Operators.{signatures_match}
 use Rattle.ob_rules.specs.Types.{Parameters}
 use Rattle.ob_rules.specs.Headings.{Head, BoundAs, Binding, signature_if, signature_or_none, new_method, with_method, change_desc, changed_if, change_type, redefined, introduced_sound, bind_method, bind_by, bind_one, bind_all, of_record, bind_records, reversed, counts, counted, bindings, same_kind, differ}
 use Rattle.law_local_judged.specs.Agreement.{IsIn, AreIn}

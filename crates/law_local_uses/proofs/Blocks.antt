@@ -168,12 +168,19 @@ made_named : (g : Given) (o : Option (Mark × Typing)) → IfThere (MarkedTyping
 made_named g None h = tt
 made_named g (Some p) h = h.1.1
 
+any_there : {A : Type 0} (o : Option A) → IfThere Anything o
+any_there None = tt
+any_there (Some x) = tt
+
+newly_held : (g : Given) (u : Around) (d : IdentDef) → Holds g Anything (newly u d)
+newly_held g u d = (any_there (newly u d).node, (marked_held g u false d).1)
+
 type_good : (g : Given) (d : IdentDef) (w : Written) → GoodWritten g w → GoodPlain g (type_declared d w)
 type_good g d w h u f =
     let m = newly u d in
     let t = typing_as u (u.path ++ d.ident.name) (mark_or_hidden m.node) w w.name in
     let j = both m t in
-    let k = both_keep (base g) Anything (TypingOk g) m t (marked_held g u false d) (as_good g u f (u.path ++ d.ident.name) (mark_or_hidden m.node) w h w.name) in
+    let k = both_keep (base g) Anything (TypingOk g) m t (newly_held g u d) (as_good g u f (u.path ++ d.ident.name) (mark_or_hidden m.node) w h w.name) in
     let ts = types_made j.node in
     let v = with_types u ts in
     let n = made_named g j.node k.0 in

@@ -174,7 +174,7 @@ pub noted_keeps : (k : Setting) {A : Type 0} (Q : A → Type 0) (n : Notes) (j :
 noted_keeps k Q n j s h = (h.0, said_both k n j.notes s h.1)
 
 pub quiet_keeps : (k : Setting) {A : Type 0} (Q : A → Type 0) (n : Notes) (j : Judged A) → Said k n → Keeps k Q j → Keeps k Q (behind_quiet n j)
-quiet_keeps k Q n j s h = (by (is_quiet n.broken) j.node h.0, said_both k n j.notes s h.1)
+quiet_keeps k {A = A} Q n j s h = (by (is_quiet n.broken) j.node h.0, said_both k n j.notes s h.1)
   where
     by : (b : Bool) (o : Option A) → IfThere Q o → IfThere Q (if_quiet b o)
     by true o i = i

@@ -22,7 +22,7 @@ use Rattle.ob_rules.specs.declared.entity.Known.{Known}
 use Rattle.ob_rules.specs.declared.entity.Entity.{Entity}
 use Rattle.ob_rules.specs.declared.notes.Later.{Later}
 use Rattle.ob_rules.specs.declared.broken.Rule.TheVariants as rule
-use Rattle.ob_rules.specs.Judged.{Judged, sound, silent, unless, both, each_sound, made, noted, judge_later, ◌▷◌, behind_quiet}
+use Rattle.ob_rules.specs.Judged.{Judged, sound, silent, unless, both, each_sound, made, judge_later, ◌▷◌, behind_quiet}
 use Rattle.ob_rules.specs.Shapes.{is_structured, is_pointer}
 use Rattle.ob_rules.specs.Names.{Around, map_of, in_unit, type_named, found_in_scope, is_among}
 use Rattle.ob_rules.specs.Phrases.{Phrase}
@@ -30,7 +30,7 @@ use Rattle.ob_rules.specs.Expressions.{constant_value}
 use Rattle.ob_rules.specs.Types.{Typing, Written, typed_as, with_types, base_name, element_name, field_name, section_name, is_module_level, mark_of, marked, named_typing, length_of, array_length, fixed_array, array, first_of, base_of, base_if, member_in, record_in, inherits, field_declared, field_if, name_in, fields_of, names_behind, WrittenFields, first_name, Fields, with_fields, fields_joined, field_lists, record_desc, record_with, pointer_to, base_judged, pointer_base, pointer_by, Parameters, WrittenSection, WrittenParameters, Sections, mode_of, twice_if, new_name, parameter_as, knows, Named as NamedAll, declare_all, parameters_of, parameters_joined, with_made, sections, result_fits, result_of, with_result, parameters_in, inner, procedure_type}
 use Rattle.law_local_judged.specs.Agreement.{IsIn, AreIn}
 use Rattle.law_local_uses.specs.Settled.{MeansIn}
-use Rattle.law_local_uses.proofs.Setting.{Said, none, Keeps, said_both, then_keeps, both_keep, made_keeps, each_keep, unless_keeps, wants_keeps, also_keeps, noted_keeps, later_keeps, quiet_keeps}
+use Rattle.law_local_uses.proofs.Setting.{Said, none, Keeps, said_both, then_keeps, both_keep, made_keeps, each_keep, unless_keeps, wants_keeps, also_keeps, later_keeps, quiet_keeps}
 use Rattle.law_local_uses.proofs.Names.{type_keeps}
 use Rattle.law_local_uses.proofs.Around.{Given, Named, AreNamed, AreKnown, Fine, base, here, own_in, settled_here}
 use Rattle.law_lists.proofs.Lists.{Anything, IfThere, all_both}

@@ -1,6 +1,6 @@
 -- The types of a module before procedures are bound to them say no more than in the end.
 use Rattle.std.proofs.Common.{inl, inr, ℕ, Bool, true, false, List, [], ◌∷◌, Option, Some, None, refl}
-use Rattle.std.specs.Prelude.{◌&&◌, not, bytes_eq, is_some, ◌||◌}
+use Rattle.std.specs.Prelude.{◌&&◌, not, bytes_eq, ◌||◌}
 use Rattle.std.specs.List.{AllByRecursion, filter}
 use Rattle.ob_tree.specs.declared.names.QName.{QName}
 use Rattle.ob_types.specs.declared.desc.Desc.{Desc}
@@ -9,8 +9,7 @@ use Rattle.ob_types.specs.declared.desc.Method.{Method}
 use Rattle.ob_types.specs.declared.typed.TypedType.{TypedType}
 use Rattle.ob_rules.specs.Shapes.{Map, Member, AField, AMethod, member}
 use Rattle.ob_rules.specs.Names.{Around, map_of}
-use Rattle.ob_rules.specs.Operators.{signatures_match}
-use Rattle.ob_rules.specs.Headings.{BoundAs, Head, Binding, signature_if, same_kind, introduced_sound, new_method, with_method, change_desc, changed_if, change_type, redefined, bind_method, bind_by, bind_one, bind_all, of_record, bind_records, differ}
+use Rattle.ob_rules.specs.Headings.{BoundAs, Head, Binding, same_kind, introduced_sound, new_method, with_method, change_desc, changed_if, change_type, redefined, bind_method, bind_by, bind_one, bind_all, of_record, bind_records, differ}
 use Rattle.law_typing_forms.specs.Said.{IsOneOf, IsBoundAmong}
 use Rattle.law_typing_env.specs.Views.{SaysNoMore, IsEarly}
 use Rattle.law_typing_env.proofs.Shown.{part_itself}

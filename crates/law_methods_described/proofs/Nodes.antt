@@ -57,7 +57,7 @@ later_has P (l ∷ ls) j h = later_has P ls j h
 
 -- where nothing is broken before it
 pub quiet_has : {A : Type 0} (P : A → Type 0) (n : Notes) (j : Judged A) → Has P j → Has P (behind_quiet n j)
-quiet_has P n j h = by (is_quiet n.broken) j.node h
+quiet_has {A = A} P n j h = by (is_quiet n.broken) j.node h
   where
     by : (b : Bool) (o : Option A) → IfThere P o → IfThere P (if_quiet b o)
     by true o k = k

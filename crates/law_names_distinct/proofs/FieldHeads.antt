@@ -1,5 +1,5 @@
 -- Headings, and what is bound, leave the fields of records what they are.
-use Rattle.std.proofs.Common.{ℕ, Bool, true, false, List, [], ◌∷◌, Option, Some, None}
+use Rattle.std.proofs.Common.{ℕ, Bool, true, false, List, [], ◌∷◌, Option, Some, None, ◌++◌}
 use Rattle.std.specs.Prelude.{bytes_eq}
 use Rattle.std.specs.List.{AllByRecursion, filter}
 use Rattle.ob_tree.specs.declared.pos.Pos.{Pos}

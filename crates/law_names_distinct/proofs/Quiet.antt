@@ -8,7 +8,7 @@ use Rattle.ob_tree.specs.declared.pos.Pos.{Pos}
 use Rattle.ob_rules.specs.declared.notes.Later.{Later}
 use Rattle.ob_rules.specs.declared.broken.Broken.{Broken}
 use Rattle.ob_rules.specs.declared.broken.Rule.{Rule}
-use Rattle.ob_rules.specs.Judged.{Judged, Notes, sound, if_sound, paired, both, made, unless, also, judge_later, noted, ◌▷◌}
+use Rattle.ob_rules.specs.Judged.{Judged, Notes, sound, if_sound, paired, both, made, unless, also, judge_later, ◌▷◌}
 use Rattle.law_lists.proofs.Lists.{Anything, IfThere, back_empty, front_empty}
 
 abbrev pub Quiet : {A : Type 0} → (A → Type 0) → Judged A → Type 0

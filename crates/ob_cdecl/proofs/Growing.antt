@@ -15,7 +15,7 @@ use Rattle.ob_rules.specs.declared.entity.Entity.{Entity}
 use Rattle.ob_rules.specs.Names.{Around, found_in_scope}
 use Rattle.ob_rules.specs.Phrases.{Phrase}
 use Rattle.ob_rules.specs.Types.{Typing, Written, with_types, marked}
-use Rattle.ob_rules.specs.Declarations.{declare, declare_if, constant_declared, constant_entity, no_nil, type_declared, typing_as, types_made, type_entity, variables_with, variables_declared, variable_entity, paired_typing, made_in, first_name}
+use Rattle.ob_rules.specs.Declarations.{declare, declare_if, constant_declared, constant_entity, no_nil, type_declared, typing_as, types_made, type_entity, variables_with, variables_declared, variable_entity, paired_typing, made_in, first_name, newly}
 use Rattle.ob_cdecl.specs.Growing.{Grows}
 
 pub grows_not : (u : Around) → Grows u u
@@ -55,7 +55,7 @@ constant_grows d x u v e = subst (Grows u) (sym e) (grows_declared u d.ident (co
 
 pub type_grows : (d : IdentDef) (n : Written) (u v : Around) → v ≡ (type_declared d n u).around → Grows u v
 type_grows d n u v e =
-    let j = (both (marked u false d) (typing_as u (u.path ++ d.ident.name) (mark_or_hidden (marked u false d).node) n n.name)).node in
+    let j = (both (newly u d) (typing_as u (u.path ++ d.ident.name) (mark_or_hidden (newly u d).node) n n.name)).node in
     subst (Grows u) (sym e) (typed_then u (types_made j) d.ident (type_entity j))
 
 pub variables_grow : (ds : List IdentDef) (n : Written) (u v : Around) → v ≡ (variables_declared ds n u).around → Grows u v

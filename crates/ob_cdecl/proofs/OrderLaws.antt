@@ -9,12 +9,12 @@ use Rattle.std.specs.Prelude.{true, false}
 use Rattle.ob_types.specs.declared.types.TypeRef.{TypeRef}
 use Rattle.ob_rules.specs.declared.notes.Notebook.{Notebook}
 use Rattle.ob_types.specs.declared.typed.TypedType.{TypedType}
-use Rattle.ob_rules.specs.Judged.{Notes, paired}
-use Rattle.ob_rules.specs.Books.{book_after}
+use Rattle.ob_rules.specs.Judged.{Notes, paired, joined}
+use Rattle.ob_rules.specs.Books.{book_after, empty_book}
 use Rattle.ob_rules.specs.Names.{Around}
 use Rattle.ob_rules.specs.Types.{Typing, Written, marked, with_types}
 use Rattle.ob_rules.specs.Headings.{mark_or_hidden}
-use Rattle.ob_rules.specs.Declarations.{Declared, Contents, together, behind_part, then_declared, declare, typing_as, types_made, type_entity, type_declared, in_order, plain_of, declaration, variables_with, variable_marked, variable_with, paired_typing, newly}
+use Rattle.ob_rules.specs.Declarations.{Declared, Contents, together, behind_part, then_declared, declare, typing_as, types_made, type_entity, type_declared, in_order, plain_of, declaration, variables_with, variable_marked, variable_with, paired_typing, newly, of_new, twice}
 use Rattle.ob_rules.proofs.BookLaws.{after_none, after_joined}
 use Rattle.ob_cdecl.specs.Seen.{holds_types}
 use Rattle.ob_cdecl.specs.Order.{declared_by, plain_declared, plain_in_order, typing_only, type_around}
@@ -135,3 +135,17 @@ type_around_is r u v w d n m o x k ev em ex ek eo h =
 pub type_opened : (d : IdentDef) (n : Written) (u : Around) → type_around d n u ≡ (type_declared d n u).around
 unfolding type_around
 type_opened d n u = refl
+
+-- what is said of it
+pub type_noted : {T F : Type 0} (r : Result T F) (u v : Around) (d : IdentDef) (n : Written) (m : Option Mark) (x : List ℕ) (k : Mark) (start marked_in typed_in b c e : Notebook) → start ≡ empty_book → marked_in ≡ book_after start (newly u d).notes → m ≡ (newly u d).node → x ≡ u.path ++ d.ident.name → k ≡ mark_or_hidden m
+    → typed_in ≡ book_after marked_in (typing_as u x k n n.name).notes → v ≡ u → ((ns : Notes) → typed_in ≡ book_after empty_book ns → c ≡ book_after b (of_new v d.ident ns)) → OnOk r (e ≡ book_after c (twice v d.ident)) → OnOk r (e ≡ book_after b (type_declared d n u).part.notes)
+type_noted r u v d n m x k start marked_in typed_in b c e new em node ex ek et ev keep h =
+    let M = (newly u d).notes in
+    let K = mark_or_hidden (newly u d).node in
+    let N = (typing_as u (u.path ++ d.ident.name) K n n.name).notes in
+    let typed : (typing_as u x k n n.name).notes ≡ N = ap (λ y. (typing_as u y k n n.name).notes) ex ∙ ap (λ y. (typing_as u (u.path ++ d.ident.name) y n n.name).notes) (ek ∙ ap mark_or_hidden node) in
+    let said : typed_in ≡ book_after empty_book (joined M N) = et ∙ ap (book_after marked_in) typed ∙ ap (λ y. book_after y N) (em ∙ ap (λ y. book_after y M) new) ∙ after_joined empty_book M N in
+    let F : Around → Notebook = λ a. book_after (book_after b (of_new a d.ident (joined M N))) (twice a d.ident) in
+    let all : book_after c (twice v d.ident) ≡ book_after b (type_declared d n u).part.notes = ap (λ y. book_after y (twice v d.ident)) (keep (joined M N) said) ∙ ap F ev ∙ after_joined b (of_new u d.ident (joined M N)) (twice u d.ident) in
+    let Q : Notebook → Type 0 = λ y. OnOk r (e ≡ y) in
+    subst Q all h

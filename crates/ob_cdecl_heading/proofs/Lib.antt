@@ -3,3 +3,4 @@ pub mod KeyLaws
 pub mod HeadLaws
 pub mod ForwardLaws
 pub mod Behind
+pub mod There

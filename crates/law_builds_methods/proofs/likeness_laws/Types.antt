@@ -1,6 +1,6 @@
 -- The types that headings of a checked module know, and those that procedures are bound to, are early types of the module.
 use Rattle.std.proofs.Common.{◌≡◌, ◌≢◌, refl, sym, ap, ◌∙◌, subst, Bool, true, false, ℕ, List, [], ◌∷◌, Option, Some, None}
-use Rattle.std.specs.Prelude.{◌&&◌, not, bytes_eq, is_some, ◌||◌}
+use Rattle.std.specs.Prelude.{◌&&◌, not, bytes_eq, ◌||◌}
 use Rattle.std.specs.List.{AllByRecursion, filter}
 use Rattle.ob_tree.specs.declared.names.QName.{QName}
 use Rattle.ob_tree.specs.declared.decl.Module.{Module as Tree}
@@ -11,9 +11,8 @@ use Rattle.ob_types.specs.declared.typed.TypedType.{TypedType}
 use Rattle.ob_rules.specs.Judged.{no_notes}
 use Rattle.ob_rules.specs.Shapes.{Map, Member, AField, AMethod, member}
 use Rattle.ob_rules.specs.Names.{Around, map_of, is_out}
-use Rattle.ob_rules.specs.Operators.{signatures_match}
 use Rattle.ob_rules.specs.Types.{nothing}
-use Rattle.ob_rules.specs.Headings.{BoundAs, Head, Binding, signature_if, same_kind, introduced_sound, new_method, with_method, changed_if, change_type, redefined, bind_method, bind_by, bind_one, bind_all, of_record, bind_records, counted, reversed, bindings, differ}
+use Rattle.ob_rules.specs.Headings.{BoundAs, Head, Binding, same_kind, introduced_sound, new_method, with_method, changed_if, change_type, redefined, bind_method, bind_by, bind_one, bind_all, of_record, bind_records, counted, reversed, bindings, differ}
 use Rattle.ob_rules.specs.Declarations.{binding_at}
 use Rattle.law_names_distinct.specs.Distinct.{AreDistinct}
 use Rattle.law_spelling.specs.Raw.{decl_named}

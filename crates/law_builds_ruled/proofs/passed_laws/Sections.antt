@@ -22,7 +22,7 @@ use Rattle.ob_types.specs.declared.typed.TypedParameter.{TypedParameter}
 use Rattle.ob_types.specs.Tests.{target, pointer_of}
 use Rattle.ob_rules.specs.declared.entity.Known.{Known}
 use Rattle.ob_rules.specs.declared.broken.Rule.TheVariants as rule
-use Rattle.ob_rules.specs.Judged.{Judged, if_sound, paired, sound, both, made, noted, unless, ◌▷◌}
+use Rattle.ob_rules.specs.Judged.{Judged, if_sound, paired, sound, both, made, unless, ◌▷◌, behind_quiet, is_quiet, if_quiet}
 use Rattle.ob_rules.specs.Shapes.{Map, shape, record_at, record_of, record_if, pointed, pointed_record, array_at, open_at, is_structured, by_value, by_var, passing_of}
 use Rattle.ob_rules.specs.Names.{Around, map_of, type_named, is_out}
 use Rattle.ob_rules.specs.Types.{Typing, Written, with_types, section_name, Parameters, WrittenSection, WrittenParameters, mode_of, parameter_as, knows, declare_all, parameters_of, parameters_joined, with_made, with_result, sections, result_fits, result_of, first_of, parameters_in, inner, is_module_level}
@@ -151,9 +151,10 @@ module _ (unit : List ℕ) (shown : QName → Option Desc) (out : is_out unit �
         result = tt;
       }
 
-  second : (own more : List TypedType) (a : Parameters) (o : Option Parameters) → IfThere (ArePassed more) o → ((q : Parameters) → ArePassed more q → ArePassed own (parameters_joined a q)) → IfThere (ArePassed own) (if_sound (paired (Some a) o) (λ q. sound (parameters_joined q.0 q.1))).node
-  second own more a None h k = tt
-  second own more a (Some q) h k = k q h
+  second : (own more : List TypedType) (a : Parameters) (quiet : Bool) (o : Option Parameters) → IfThere (ArePassed more) o → ((q : Parameters) → ArePassed more q → ArePassed own (parameters_joined a q)) → IfThere (ArePassed own) (if_sound (paired (if_quiet quiet (Some a)) o) (λ q. sound (parameters_joined q.0 q.1))).node
+  second own more a false o h k = tt
+  second own more a true None h k = tt
+  second own more a true (Some q) h k = k q h
 
   pub sections_passed : (ss : List WrittenSection) → GoodSections ss → (u : Around) → Fair u → (name : List ℕ) (i : ℕ) → Has (ArePassed u.own) (sections u name i ss).found
   sections_passed [] g u f name i = record { made = tt; aliases = tt; passed = tt; result = tt }
@@ -168,7 +169,11 @@ module _ (unit : List ℕ) (shown : QName → Option Desc) (out : is_out unit �
 
       by : (o : Option Typing) → IfThere (Typed u.own) o → ((v : Around) → Fair v → Has (ArePassed v.own) (sections v name (i + length s.names) ss).found)
           → Has (ArePassed u.own) (both (behind_quiet (declare_all u (mode_of s.is_var) o s.names).notes (made (parameters_of u (mode_of s.is_var) s.names) (record { node = o; notes = t.notes }))) (sections (with_made (declare_all u (mode_of s.is_var) o s.names).around o) name (i + length s.names) ss).found ▷ λ q. sound (parameters_joined q.0 q.1))
-      by None h r = tt
+      by None h r = none (is_quiet (declare_all u (mode_of s.is_var) None s.names).notes.broken)
+        where
+          none : (q : Bool) → IfThere (ArePassed u.own) (if_sound (paired (if_quiet q None) (sections (declare_all u (mode_of s.is_var) None s.names).around name (i + length s.names) ss).found.node) (λ q. sound (parameters_joined q.0 q.1))).node
+          none true = tt
+          none false = tt
       by (Some x) h r =
           let m = mode_of s.is_var in
           let d = (declare_all u m (Some x) s.names).around in
@@ -178,7 +183,7 @@ module _ (unit : List ℕ) (shown : QName → Option Desc) (out : is_out unit �
           let rest : Has (ArePassed (x.made ++ u.own)) (sections v name (i + length s.names) ss).found = subst (λ own. Has (ArePassed (x.made ++ own)) (sections v name (i + length s.names) ss).found) same (r v fair) in
           let a = parameters_of u m s.names x in
           let first : ArePassed u.own a = record { made = h.made; aliases = h.aliases; passed = names_passed u f m x h s.names; result = tt } in
-          second u.own (x.made ++ u.own) a (sections v name (i + length s.names) ss).found.node rest (λ q k. joined_passed u.own a q first k)
+          second u.own (x.made ++ u.own) a (is_quiet (declare_all u m (Some x) s.names).notes.broken) (sections v name (i + length s.names) ss).found.node rest (λ q k. joined_passed u.own a q first k)
 
   -- what is known behind sections is what was known before, and parameters
   all_known : (own : List TypedType) (u : Around) (m : Mode) (t : Option Typing) (xs : List Ident) → KnownIn own u.known → KnownIn own (declare_all u m t xs).around.known
