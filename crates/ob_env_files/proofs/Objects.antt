@@ -1,15 +1,15 @@
 -- Objects that ascend by name, under their names.
-use Rattle.std.proofs.Common.{◌≡◌, ℕ, zero, suc, ◌+◌, ◌<◌, ◌≤◌, Bool, true, false, not, cond, nat_lt, List, [], ◌∷◌, ◌++◌, map, length, get_or, position, Option, Some, None, refl, sym, ap, subst, ◌∙◌, arith, ⊎_elim}
-use Rattle.std.specs.Prelude.{nat_eq, bytes_eq}
+use Rattle.std.proofs.Common.{◌≡◌, ℕ, zero, suc, ◌+◌, ◌<◌, ◌≤◌, Bool, true, false, not, cond, List, [], ◌∷◌, ◌++◌, length, get_or, position, Option, Some, None, refl, sym, ap, subst, ◌∙◌, arith, ⊎_elim}
+use Rattle.std.specs.Prelude.{nat_eq, nat_lt, bytes_eq}
 use Rattle.std.specs.List.{AllByRecursion, HoldsAt, position_or_len}
 use Rattle.std.specs.List.Sorted.{IsStrictlySortedBy, IsNonDecreasingBy, IsPartitionPoint}
 use Rattle.std.specs.Map.{keys_of, values_of, lookup}
-use Rattle.std.specs.Cmp.{is_eq}
 use Rattle.std.specs.Cmp.Lexicographic.{slice_cmp, pointwise, bytes_decides, texts_ties}
-use Rattle.std.specs.Ordering.{nat_cmp, ordering_index, ordering_reverse}
+use Rattle.std.specs.Ordering.{nat_cmp, is_eq, ordering_index, ordering_reverse}
 use Rattle.std.specs.declared.cmp.Ordering.{Ordering}
 use Rattle.std.specs.declared.cmp.Ordering.TheVariants.{Less, Equal, Greater}
 use Rattle.std.proofs.lemmas.Bool.{cases_lt}
+use Rattle.std.proofs.lemmas.Bool.Decides.{nat_tests}
 use Rattle.std.proofs.lemmas.Cmp.{nat_list_cmp_total}
 use Rattle.std.proofs.lemmas.List.Sorted.{IsNonDecreasingBy-from_default}
 use Rattle.std.proofs.lemmas.Map.Keys.{Less-from_sorted}
@@ -63,6 +63,9 @@ named_again m os e = e ∙ ap under_names (sym (held m os e))
 pub parts_are : (f : Interface) (m : ObjectIndex) → m.entries ≡ under_names f.objects → spelled_face f.«module» f.imports m f.uses ≡ f
 parts_are f m e = ap (λ (os : List Object). record f { objects = os }) (held m f.objects e)
 
+pub held_rise : (bytes : List ℕ) (f : Interface) (m : ObjectIndex) → IsBytes bytes → whole face bytes ≡ Some f → m.entries ≡ under_names f.objects → IsStrictlySortedBy by_name (values m)
+held_rise bytes f m are is e = subst (IsStrictlySortedBy by_name) (sym (held m f.objects e)) (rising bytes f are is)
+
 -- one more object, which comes behind all others
 in_turn : (o p : Object) (seen rest : List Object) → AllByRecursion (λ y. by_name p y ≡ Less) (seen ++ o ∷ rest) → slice_cmp nat_cmp p.name o.name ≡ Less
 in_turn o p [] rest all = all.0
@@ -93,16 +96,38 @@ object_is m os x e = ap (lookup (pointwise nat_eq x)) e ∙ found_in os x
 abbrev at_most : ℕ → ℕ → ℕ → Option ℕ
 at_most n p l = cond (nat_lt p l) (Some (n + p)) None
 
+lt_suc : (p l : ℕ) → nat_lt (1 + p) (suc l) ≡ nat_lt p l
+lt_suc p l = go (nat_lt p l) refl
+  where
+    go : (b : Bool) → nat_lt p l ≡ b → nat_lt (1 + p) (suc l) ≡ b
+    go true e = grind (arith, nat_tests)
+    go false e = grind (arith, nat_tests)
+
+zero_lt : (l : ℕ) → nat_lt 0 (suc l) ≡ true
+zero_lt l = grind (arith, nat_tests)
+
 counted : (n : ℕ) (x : List ℕ) (ys : List (List ℕ)) → at_most n (position_or_len (bytes_eq x) ys) (length ys) ≡ position_from n x ys
 counted n x [] = refl
 counted n x (y ∷ ys) = go (bytes_eq x y) (counted (suc n) x ys)
   where
     go : (b : Bool) → at_most (suc n) (position_or_len (bytes_eq x) ys) (length ys) ≡ position_from (suc n) x ys → at_most n (cond (not b) (1 + position_or_len (bytes_eq x) ys) 0) (suc (length ys)) ≡ cond b (Some n) (position_from (suc n) x ys)
-    go true h = ap Some (omega arith)
-    go false h = ap (λ (k : ℕ). cond (nat_lt (position_or_len (bytes_eq x) ys) (length ys)) (Some k) None) (omega arith) ∙ h
+    go true h =
+        let none : n + 0 ≡ n = omega arith in
+        ap (λ (c : Bool). cond c (Some (n + 0)) None) (zero_lt (length ys)) ∙ ap (λ (k : ℕ). Some k) none
+    go false h =
+        let p = position_or_len (bytes_eq x) ys in
+        let next : n + (1 + p) ≡ suc n + p = omega arith in
+        ap (λ (c : Bool). cond c (Some (n + (1 + p))) None) (lt_suc p (length ys))
+        ∙ ap (λ (k : ℕ). cond (nat_lt p (length ys)) (Some k) None) next
+        ∙ h
+
+plain : (x : List ℕ) (ys : List (List ℕ)) → position (pointwise nat_eq x) ys ≡ at_most 0 (position_or_len (bytes_eq x) ys) (length ys)
+plain x ys =
+    let z : position_or_len (bytes_eq x) ys ≡ 0 + position_or_len (bytes_eq x) ys = omega arith in
+    ap (λ (k : ℕ). cond (nat_lt (position_or_len (bytes_eq x) ys) (length ys)) (Some k) None) z
 
 pub position_is : (m : ObjectIndex) (os : List Object) (x : List ℕ) → m.entries ≡ under_names os → position (pointwise nat_eq x) (keys_of m.entries) ≡ position_from 0 x (names_of os)
-position_is m os x e = ap (λ l. position (pointwise nat_eq x) l) (ap keys_of e ∙ keys_are os) ∙ counted 0 x (names_of os)
+position_is m os x e = ap (λ l. position (pointwise nat_eq x) l) (ap keys_of e ∙ keys_are os) ∙ plain x (names_of os) ∙ counted 0 x (names_of os)
 
 -- ---- a search by halves
 
@@ -140,12 +165,14 @@ rising_index a b x less = go (slice_cmp nat_cmp a x) (slice_cmp nat_cmp b x) ref
 rises : (os : List Object) (d : Object) (x : List ℕ) → IsStrictlySortedBy by_name os → (i j : ℕ) → i ≤ j → j < length os → ordering_index (slice_cmp nat_cmp (get_or os i d).name x) ≤ ordering_index (slice_cmp nat_cmp (get_or os j d).name x)
 rises os d x s i j le lt = ⊎_elim
     (λ before. rising_index (get_or os i d).name (get_or os j d).name x (Less-from_sorted by_name os i j d s before lt))
-    (λ behind. subst (λ (k : ℕ). ordering_index (slice_cmp nat_cmp (get_or os i d).name x) ≤ ordering_index (slice_cmp nat_cmp (get_or os k d).name x)) (omega (arith, le, behind)) (omega arith))
+    (λ behind. let one : i ≡ j = omega (arith, le, behind) in subst (λ (k : ℕ). ordering_index (slice_cmp nat_cmp (get_or os i d).name x) ≤ ordering_index (slice_cmp nat_cmp (get_or os k d).name x)) one (omega arith))
     (cases_lt i j)
 
 pub halved : (os : List Object) (x : List ℕ) (i : ℕ) → IsStrictlySortedBy by_name os → i < length os → HoldsAt (λ (y : Object). slice_cmp nat_cmp y.name x ≡ Equal) os i → position_from 0 x (names_of os) ≡ Some i
 halved [] x i s lt h = absurd (omega (arith, lt))
-halved (o ∷ os) x i s lt h = one_at (o ∷ os) 0 i o x s lt (same (get_or (o ∷ os) i o).name x (h o))
+halved (o ∷ os) x i s lt h =
+    let z : 0 + i ≡ i = omega arith in
+    one_at (o ∷ os) 0 i o x s lt (same (get_or (o ∷ os) i o).name x (h o)) ∙ ap (λ (k : ℕ). Some k) z
 
 pub missed : (os : List Object) (x : List ℕ) (i : ℕ) → IsStrictlySortedBy by_name os → (IsNonDecreasingBy (λ (y : Object). ordering_index (slice_cmp nat_cmp y.name x)) os → IsPartitionPoint (λ (y : Object). slice_cmp nat_cmp y.name x ≡ Less) (λ (y : Object). slice_cmp nat_cmp y.name x ≡ Greater) os i) → position_from 0 x (names_of os) ≡ None
 missed [] x i s parted = refl

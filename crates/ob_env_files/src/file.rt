@@ -1,6 +1,9 @@
 //! A symbol file that was read: its bytes, and the interface that they spell, whose objects are found by their names.
 
-ghost use Rattle.std.specs.Prelude.{◌≡◌, true, Some, IfOk, MatchResult};
+ghost use Rattle.std.specs.Prelude.{◌≡◌, nat_eq, true, Some, IfOk, OnOk, MatchResult};
+ghost use Rattle.std.specs.Cmp.Lexicographic.{pointwise, slice_cmp};
+ghost use Rattle.std.specs.Ordering.{nat_cmp};
+ghost use Rattle.indexmap.specs.IndexMap.{insert_entry};
 ghost use Rattle.std.specs.Option.{option_copied};
 ghost use Rattle.std.specs.List.Sorted.{IsStrictlySortedBy};
 ghost use Rattle.ob_format.specs.Format.{whole};
@@ -14,6 +17,7 @@ use ob_sym::{SymFault, read_sym};
 use ob_tree::{List, Name, ObjName, Text};
 use ob_types::{Interface, Object, Use};
 use std::alloc::{AllocError, Global};
+use std::cmp::Ordering;
 use std::marker::Model;
 use std::rc::Rc;
 
@@ -32,15 +36,16 @@ impl Model for Spelled {
     ghost use Rattle.std.specs.Prelude.{◌≡◌, Some};
     ghost use Rattle.indexmap.specs.IndexMap.{values};
     ghost use Rattle.ob_format.specs.Format.{whole};
-    ghost use Rattle.ob_sym.specs.Grammar.{face as face_form};
+    ghost use Rattle.ob_sym.specs.Grammar.{face as face_form, by_name};
     ghost use Rattle.ob_types.specs.declared.face.Interface.{Interface as Face};
     ghost use Rattle.ob_env_files.specs.Names.{under_names, spelled_face};
+    ghost use Rattle.std.specs.List.Sorted.{IsStrictlySortedBy};
 
     ghost Value = { Face };
 
     ghost view = { λ s. spelled_face s.«module» s.imports s.objects s.uses };
 
-    ghost invariant = { λ s. (whole face_form s.bytes ≡ Some (spelled_face s.«module» s.imports s.objects s.uses)) × (s.objects.entries ≡ under_names (values s.objects)) };
+    ghost invariant = { λ s. (whole face_form s.bytes ≡ Some (spelled_face s.«module» s.imports s.objects s.uses)) × (s.objects.entries ≡ under_names (values s.objects)) × IsStrictlySortedBy by_name (values s.objects) };
 }
 
 /// A symbol file that was read: its bytes, and the interface that they spell, whose objects are
@@ -58,16 +63,23 @@ impl Model for SymbolFile {
     ghost view = { λ f. f.shared.value };
 }
 
+// Puts an object under its name, in the place of one that has it or else behind the others.
+fn put(index: &mut IndexMap<ObjName, Object>, object: Object) -> Result<(), AllocError>
+    ensures { OnOk result (index.new.entries ≡ insert_entry (pointwise nat_eq) index.old.entries object.name object) }
+{
+    let name = object.name.clone()?;
+    index.insert(name, object)?;
+    Ok(())
+}
+
 // Objects that ascend by name, under their names.
-#[tactic(auto, using(crate::proofs::Objects::entered))]
 fn indexed(alloc: Global, objects: List<Object>) -> Result<IndexMap<ObjName, Object>, AllocError>
     requires { IsStrictlySortedBy by_name objects }
     ensures { IfOk result (λ index. index.entries ≡ under_names objects) }
 {
     let mut index = IndexMap::with_capacity(alloc, objects.len())?;
     'objects: for object in objects.into_items() {
-        let name = object.name.clone()?;
-        index.insert(name, object)?;
+        put(&mut index, object)?;
     }
     Ok(index)
 }
@@ -77,7 +89,11 @@ fn halved(objects: &[Object], name: &[u8]) -> Option<usize>
     requires { IsStrictlySortedBy by_name objects.now }
     ensures { result ≡ position_from 0 name.now (names_of objects.now) }
 {
-    match objects.binary_search_by(|object| object.name.as_bytes().cmp(name)) {
+    match objects.binary_search_by(
+        |object: &Object| -> Ordering
+            ensures { result ≡ slice_cmp nat_cmp object.now.name name.entry.now }
+        { object.name.as_bytes().cmp(name) },
+    ) {
         Ok(position) => Some(position),
         Err(_) => None,
     }
@@ -91,7 +107,7 @@ fn are_same(a: &[u8], b: &[u8]) -> bool
 
 impl Spelled {
     // The bytes, and the interface that they spell.
-    #[tactic(auto, using(crate::proofs::Objects::rising, crate::proofs::Objects::named_again, crate::proofs::Objects::parts_are))]
+    #[tactic(auto, using(crate::proofs::Objects::rising, crate::proofs::Objects::held_rise, crate::proofs::Objects::named_again, crate::proofs::Objects::parts_are))]
     fn of(alloc: Global, bytes: &[u8], face: Interface) -> Result<Spelled, AllocError>
         requires { whole face_form bytes.now ≡ Some face }
         ensures { IfOk result (λ s. s ≡ face) }
@@ -165,7 +181,6 @@ impl Spelled {
 }
 
 // The object of a name.
-#[tactic(auto, using(crate::proofs::Objects::object_is))]
 fn object_in<'a>(index: &'a IndexMap<ObjName, Object>, name: &ObjName) -> Option<&'a Object>
     ensures { (os : _) → index.now.entries ≡ under_names os → option_copied result ≡ first_by (λ o. o.name) os name.now }
 {
@@ -173,7 +188,6 @@ fn object_in<'a>(index: &'a IndexMap<ObjName, Object>, name: &ObjName) -> Option
 }
 
 // The position of a name.
-#[tactic(auto, using(crate::proofs::Objects::position_is))]
 fn position_in(index: &IndexMap<ObjName, Object>, name: &ObjName) -> Option<usize>
     ensures { (os : _) → index.now.entries ≡ under_names os → result ≡ position_from 0 name.now (names_of os) }
 {
