@@ -49,6 +49,17 @@ pub is_shown : (is : List Interface) (q : QName) → place_of is q >>= seen_at i
 unfolding described_in
 is_shown is q = sym (ap (option_map blank) (described_found is q) ∙ at_module is q (position_from 0 q.«module» (module_names is)) refl)
 
+-- what was found at a place
+pub seen_through : (is inside l : List Interface) (place : ℕ × ℕ) (o : Option Desc) → inside ≡ is → l ≡ inside → o ≡ seen_at l place → o ≡ seen_at is place
+seen_through is inside l place o e f h = h ∙ ap (λ (m : List Interface). seen_at m place) (f ∙ e)
+
 -- what was found at the place of a name
-pub shown_at : (is : List Interface) (q : QName) (place : Option (ℕ × ℕ)) (o : Option Desc) → place ≡ place_of is q → o ≡ place >>= seen_at is → o ≡ shown (each face_of is) q
-shown_at is q place o e h = h ∙ ap (λ (p : Option (ℕ × ℕ)). p >>= seen_at is) e ∙ is_shown is q
+pub shown_at : (is inside : List Interface) (q : QName) (place : Option (ℕ × ℕ)) (o : Option Desc) → inside ≡ is → place ≡ place_of inside q → o ≡ place >>= seen_at is → o ≡ shown (each face_of is) q
+shown_at is inside q place o e f h =
+    h ∙ ap (λ (p : Option (ℕ × ℕ)). p >>= seen_at is) (f ∙ ap (λ (l : List Interface). place_of l q) e) ∙ is_shown is q
+
+-- what was found at the place of a name, by its bytes
+pub shown_by : (is inside : List Interface) (m x : List ℕ) (q : QName) (place : Option (ℕ × ℕ)) (o : Option Desc) → inside ≡ is → m ≡ q.«module» → x ≡ q.object → place ≡ place_of inside (record { «module» = m; object = x }) → o ≡ place >>= seen_at is → o ≡ shown (each face_of is) q
+shown_by is inside m x q place o e n k f h =
+    shown_at is inside q place o e
+    (f ∙ ap (λ (l : List ℕ). let r : QName = record { «module» = l; object = x } in place_of inside r) n ∙ ap (λ (l : List ℕ). let r : QName = record { «module» = q.«module»; object = l } in place_of inside r) k) h

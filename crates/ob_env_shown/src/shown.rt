@@ -104,11 +104,16 @@ impl<'a> Shown<'a> {
     }
 
     // The object at a place, without places, numbers and words.
+    #[tactic(auto, using(crate::proofs::Blanks::seen_through))]
     fn at(&self, place: Option<(usize, usize)>) -> Option<&Desc>
         ensures { option_copied result ≡ (place >>= seen_at self.now) }
     {
-        let (face, position) = place?;
-        seen_in(self.env.faces(), self.records.rows(), face, position)
+        match place {
+            None => None,
+            Some((face, position)) => {
+                seen_in(self.env.faces(), self.records.rows(), face, position)
+            }
+        }
     }
 }
 
@@ -124,7 +129,7 @@ impl Types for Shown<'_> {
 }
 
 impl Imports for Shown<'_> {
-    #[tactic(auto, using(crate::proofs::Blanks::shown_at))]
+    #[tactic(auto, using(crate::proofs::Blanks::shown_by))]
     fn shown(&self, unit: &Name, name: &Name) -> Option<&Desc> {
         self.at(self.env.position(unit.as_bytes(), name.as_bytes()))
     }
