@@ -175,7 +175,7 @@ fn compare_objects(
 }
 
 /// The differences of two interfaces, by name and kind. An error is want of memory alone.
-#[tactic(auto, using(crate::proofs::Filed::are_objects_in, crate::proofs::Filed::verdicts_are))]
+#[tactic(auto, using(crate::proofs::Filed::are_objects))]
 pub fn compare(alloc: Global, old: &Interface, new: &Interface) -> Result<List<Verdict>, AllocError>
     // Both have a symbol file.
     requires old { face_form.fits old.now }
@@ -192,7 +192,7 @@ pub fn compare(alloc: Global, old: &Interface, new: &Interface) -> Result<List<V
 }
 
 /// The differences of an interface and that of a symbol file, as `compare` tells them.
-#[tactic(auto, using(crate::proofs::Filed::are_objects_in, crate::proofs::Filed::verdicts_are))]
+#[tactic(auto, using(crate::proofs::Filed::are_objects))]
 pub fn compare_file(
     alloc: Global,
     old: &Interface,
