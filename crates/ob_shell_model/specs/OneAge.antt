@@ -39,18 +39,18 @@ ByCompile l source kept found = (text : List ℕ) × (tree : Tree) × (faces : L
 abbrev pub ByCheck : Library → List ℕ → Text → Text → Type 0
 ByCheck l m kept found = (b d : Build) × (name : List ℕ) × (l.objects m ≡ Holds b) × (l.symbols name ≡ Holds d) × OfBuilds b d kept found
 
--- a name that a load comes to in so many steps: its own, one that a loaded build imports, or one that a build on the way imports
-abbrev pub IsReached : Library → List Build → List ℕ → ℕ → List ℕ → Type 0
-IsReached l loaded m zero n = (n ≡ m) ⊎ ((b : Build) × Contains loaded b × Contains (shows_of b).imports n)
-IsReached l loaded m (suc steps) n = (b : Build) × (name : List ℕ) × IsReached l loaded m steps name × (l.objects name ≡ Holds b) × Contains (shows_of b).imports n
+-- a name that a load of the module comes to in so many steps through imports
+abbrev pub IsReached : Library → List ℕ → ℕ → List ℕ → Type 0
+IsReached l m zero n = m ≡ n
+IsReached l m (suc steps) n = (b : Build) × (name : List ℕ) × IsReached l m steps name × (l.objects name ≡ Holds b) × Contains (shows_of b).imports n
 
--- a build that a load meets: it is loaded, or a name that is reached has it
-abbrev pub IsMet : Library → List Build → List ℕ → Build → Type 0
-IsMet l loaded m b = Contains loaded b ⊎ ((steps : ℕ) × (name : List ℕ) × IsReached l loaded m steps name × (l.objects name ≡ Holds b))
+-- a build that it comes to
+abbrev pub IsNeeded : Library → List ℕ → Build → Type 0
+IsNeeded l m b = (steps : ℕ) × (name : List ℕ) × IsReached l m steps name × (l.objects name ≡ Holds b)
 
--- A load compares the uses of the builds that it meets with these builds.
+-- A load compares the uses of the builds that it comes to with these builds, and with those that are loaded.
 abbrev pub ByLoad : Library → List Build → List ℕ → Text → Text → Type 0
-ByLoad l loaded m kept found = (b d : Build) × IsMet l loaded m b × IsMet l loaded m d × OfBuilds b d kept found
+ByLoad l loaded m kept found = (b d : Build) × IsNeeded l m b × (IsNeeded l m d ⊎ Contains loaded d) × OfBuilds b d kept found
 
 -- module k + 1 of a demo of n is compiled, or behind the last one its command is loaded
 abbrev pub ByDemo : ℕ → Text → Text → Type 0
