@@ -1,6 +1,6 @@
 -- Where no two texts of the builds spoken of have one print, prints tell apart all that a session compares.
 use Rattle.std.proofs.Common.{◌≡◌, ℕ, ◌+◌, ◌≤◌, List, [], ◌∷◌, ◌++◌, true, false, length, refl, sym, ap, ◌∙◌, subst, Option, Some, None, Result, Ok, Err, ⊎_elim, inl, inr, cond, Bool, arith}
-use Rattle.std.specs.Prelude.{zero, suc, bytes_eq, Contains, ◌⊎◌}
+use Rattle.std.specs.Prelude.{zero, suc, map, bytes_eq, Contains, ◌⊎◌}
 use Rattle.std.specs.List.{AllByRecursion}
 use Rattle.std.proofs.lemmas.Bool.{false≢true}
 use Rattle.std.proofs.lemmas.Slice.Eq.{bytes_eq-Decides}
@@ -8,7 +8,8 @@ use Rattle.ob_env.specs.Faces.{Face}
 use Rattle.ob_link.specs.Plan as load
 use Rattle.ob_link.specs.Plan.{Entry, Missing, TooLong, Junk, Holds}
 use Rattle.ob_compile_model.specs.Compiling as compile
-use Rattle.ob_compile_model.specs.Compiling.{Compiled, compiled, texts}
+use Rattle.ob_compile_model.specs.Compiling.{Compiled, imported}
+use Rattle.ob_demo.specs.Source.{module_name}
 use Rattle.ob_link.specs.Files.{Files}
 use Rattle.ob_shell_lines.specs.Lines.{Line, Compile, Compare, Check, Show, Demo, Command, Unknown, Nothing, line_of, done_lines}
 use Rattle.ob_words.specs.declared.asked.Settings.{Settings}
@@ -77,7 +78,7 @@ kept_of l library b i t k = let v = valid_of l library b i in of_build b v.0 v.1
 module _ (P : Text → Type 0) (l : Library) (library : IsLibrary l) (all : AreOf P l) where
   in_compile : (source : Option (List ℕ)) (kept found : Text) → ByCompile l source kept found → Both P kept found
   in_compile source kept found c =
-      let held : AreHeld (interface_in l) c.2 = (walk_again (interface_in l) (found_named l library) c.1.name.name _ c.2 c.5).1 in
+      let held : AreHeld (interface_in l) c.2 = (walk_again (interface_in l) (found_named l library) c.1.name.name (map imported c.1.imports) c.2 c.5).1 in
       let by : IsHeld (interface_in l) c.6 = held_in l c.2 c.6 held (to_in c.2 c.6 c.7) in
       let u = c.8 in
       let k = spoken l library by.0 c.6 by.1 kept (inr (u.0, u.1, u.2)) in
@@ -151,10 +152,10 @@ module _ (valid : NewIsValid) (s : Settings) (P : Text → Type 0) where
       (λ (d : (suc c.0 ≤ n) × ByCompile c.1.1.library ((with_source c.1.1 n (suc c.0)).files (source_name (suc c.0))) kept found).
       let le = d.0 in
       in_compile P c.1.1.library f.0 (all c.0 c.1 (omega (arith, le)) c.2) ((with_source c.1.1 n (suc c.0)).files (source_name (suc c.0))) kept found d.1)
-      (λ d.
+      (λ (d : (c.0 ≡ n) × ByLoad c.1.1.library c.1.1.loaded (module_name n) kept found).
       let is = d.0 in
       in_load P c.1.1.library f.0 (all c.0 c.1 (omega (arith, is)) c.2) c.1.1.loaded
-      (λ b i. absurd (has_none b (subst (λ bs. Contains bs b) f.1 i))) _ kept found d.1)
+      (λ b i. absurd (has_none b (subst (λ bs. Contains bs b) f.1 i))) (module_name n) kept found d.1)
       c.3
 
   in_line : (v : World) (n : ℕ) (l : List ℕ) (ls : List (List ℕ)) → Before s P v n (l ∷ ls) → (line : Line) → line_of l ≡ line → (kept found : Text) → ByLine v line kept found → Both P kept found

@@ -55,9 +55,9 @@ ByLoad l loaded m kept found = (b d : Build) × IsNeeded l m b × (IsNeeded l m 
 -- module k + 1 of a demo of n is compiled, or behind the last one its command is loaded
 abbrev pub ByDemo : ℕ → Text → Text → Type 0
 ByDemo n kept found = (k : ℕ) × (x : ℕ × World) × (demo_behind n k ≡ Some x) × (
-  ((suc k ≤ n) × ByCompile x.1.library ((with_source x.1 n (suc k)).files (source_name (suc k))) kept found)
-  ⊎ ((k ≡ n) × ByLoad x.1.library x.1.loaded (module_name n) kept found)
-)
+    ((suc k ≤ n) × ByCompile x.1.library ((with_source x.1 n (suc k)).files (source_name (suc k))) kept found)
+    ⊎ ((k ≡ n) × ByLoad x.1.library x.1.loaded (module_name n) kept found)
+    )
 
 -- by a line of a script
 abbrev pub ByLine : World → Line → Text → Text → Type 0
