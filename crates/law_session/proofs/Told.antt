@@ -60,7 +60,7 @@ AreOf P l = (b : Build) → IsIn l b → (t : Text) → IsTextOfBuild b t → P 
 abbrev Both : (Text → Type 0) → Text → Text → Type 0
 Both P kept found = P kept × P found
 
-held_in : (l : Library) (fs : List (Face Text)) (f : Face Text) → AreHeld (interface_in l) fs → In fs f → IsHeld (interface_in l) f
+pub held_in : (l : Library) (fs : List (Face Text)) (f : Face Text) → AreHeld (interface_in l) fs → In fs f → IsHeld (interface_in l) f
 held_in l [] f h i = absurd i
 held_in l (g ∷ fs) f h (inl e) = subst (IsHeld (interface_in l)) e h.0
 held_in l (g ∷ fs) f h (inr i) = held_in l fs f h.1 i
@@ -82,9 +82,9 @@ module _ (P : Text → Type 0) (l : Library) (library : IsLibrary l) (all : AreO
       let by : IsHeld (interface_in l) c.6 = held_in l c.2 c.6 held (to_in c.2 c.6 c.7) in
       let u = c.8 in
       let k = spoken l library by.0 c.6 by.1 kept (inr (u.0, u.1, u.2)) in
-      let s : ShownAmong c.2 found = shown_among c.2 u.0.object u.0.aspect found u.3 in
+      let s : ShownAmong c.2 u.0.object u.0.aspect found = shown_among c.2 u.0.object u.0.aspect found u.3 in
       let from : IsHeld (interface_in l) s.face = held_in l c.2 s.face held s.among in
-      let f = spoken l library from.0 s.face from.1 found (inl s.shows) in
+      let f = spoken l library from.0 s.face from.1 found (inl (u.0.object, u.0.aspect, s.shows)) in
       (all k.0 k.1 kept k.2, all f.0 f.1 found f.2)
 
   in_check : (m : List ℕ) (kept found : Text) → ByCheck l m kept found → Both P kept found
@@ -109,10 +109,10 @@ none_or None = false
 none_or (Some x) = true
 
 -- they have libraries, and nothing is loaded
-abbrev IsFresh : ℕ × World → Type 0
+abbrev pub IsFresh : ℕ × World → Type 0
 IsFresh x = IsLibrary x.1.library × (x.1.loaded ≡ [])
 
-abbrev AreFresh : Making → Type 0
+abbrev pub AreFresh : Making → Type 0
 AreFresh None = Unit {0}
 AreFresh (Some x) = IsFresh x
 
@@ -127,7 +127,7 @@ fresh_one valid n i (Some x) h =
     fresh_made valid x.0 there (or_empty (there.files (source_name i))) (compiled_in there (there.files (source_name i)))
     (λ c e. new_valid valid there.library h.0 (there.files (source_name i)) c e) h
 
-fresh_behind : NewIsValid → (n k : ℕ) → AreFresh (demo_behind n k)
+pub fresh_behind : NewIsValid → (n k : ℕ) → AreFresh (demo_behind n k)
 unfolding demo_behind
 fresh_behind valid n zero = (record { objects = λ name. tt; symbols = λ name. tt }, refl)
 fresh_behind valid n (suc k) = fresh_one valid n (suc k) (demo_behind n k) (fresh_behind valid n k)

@@ -9,8 +9,9 @@ use Rattle.ob_builds.specs.Promises.{Promises}
 use Rattle.ob_shell_model.specs.Session as session
 use Rattle.ob_shell_model.specs.Session.{Ends}
 use Rattle.ob_shell_model.specs.Library.{Library, IsLibrary, Kept}
+use Rattle.ob_shell_model.specs.Model.{start}
 use Rattle.ob_shell_model.specs.Headline.{Headline, Stands}
-use Rattle.ob_shell_model.specs.OneAge.{StandsAsCompared, StandsInOneAge, IsOfOneAge, CompilesNothing}
+use Rattle.ob_shell_model.specs.OneAge.{StandsAsCompared, StandsInOneAge, IsOfOneAge, StaysInOneAge, CompilesNothing}
 
 -- Where no two texts of the builds spoken of share a print, prints tell apart all that is compared.
 abbrev pub ApartAreTold : Type 0
@@ -31,8 +32,14 @@ HeadlineHoldsInOneAge = Promises →
     (status ≡ 2 → ⊥) → status ≤ 7 →
     Ends (session.bytes s old) before now old new script status → Headline s before now old new l script status
 
--- Over a library of one age, lines that compile nothing compare only what is of one age.
+-- Where each world on the way is of one age, all that the session compares is.
+abbrev pub WorldsGiveOneAge : Type 0
+WorldsGiveOneAge = Promises →
+    (s : Settings) (l : Library) (files : Files) (script : List ℕ) → IsLibrary l → Kept files l → StaysInOneAge s files l script →
+    StandsInOneAge s files l script
+
+-- Where the library is of one age, lines that compile nothing compare only what is.
 abbrev pub OneAgeStays : Type 0
 OneAgeStays = (s : Settings) (l : Library) (files : Files) (script : List ℕ) →
-    IsLibrary l → Kept files l → IsOfOneAge l → AllByRecursion (λ text. CompilesNothing (line_of text)) (done_lines script) →
+    IsLibrary l → Kept files l → IsOfOneAge (start files l) → AllByRecursion (λ text. CompilesNothing (line_of text)) (done_lines script) →
     StandsInOneAge s files l script

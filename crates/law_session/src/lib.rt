@@ -7,7 +7,7 @@ ghost use Rattle.law_session.specs.Named.{ImportsAreNamed};
 ghost use Rattle.law_session.specs.Kept.{KeptCompilesAlike};
 ghost use Rattle.law_session.specs.Loads.{LoadsAlike};
 ghost use Rattle.law_session.specs.Holds.{HeadlineHolds as FromPromises, LinesHold};
-ghost use Rattle.law_session.specs.OneAge.{ApartAreTold, HeadlineHoldsAsCompared, HeadlineHoldsInOneAge, OneAgeStays};
+ghost use Rattle.law_session.specs.OneAge.{ApartAreTold, HeadlineHoldsAsCompared, HeadlineHoldsInOneAge, OneAgeStays, WorldsGiveOneAge};
 
 /// A law, with nothing to run: the empty folder keeps the empty library.
 pub fn empty_is_kept()
@@ -116,13 +116,14 @@ pub fn sessions_chain()
 /// - the headline of a session asks for no more than that;
 /// - where all that is compared is of one age, each use keeping the very text that its object has by
 ///   now, the headline holds with nothing asked of prints;
-/// - so it is with every script that compiles nothing, over a library in which each use keeps the
-///   very text that its object has in each build there.
+/// - so it is where each world on the way is of one age, its library and the loaded builds together;
+/// - so it is with every script that compiles nothing, where the library is of one age.
 ///
 /// The laws of builds (`Promises` of `ob_builds`) are premises here.
 pub fn one_age()
     ensures told { ApartAreTold }
     ensures compared { HeadlineHoldsAsCompared }
     ensures whole { HeadlineHoldsInOneAge }
+    ensures worlds { WorldsGiveOneAge }
     ensures stays { OneAgeStays }
 {}

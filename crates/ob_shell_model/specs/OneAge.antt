@@ -101,9 +101,20 @@ pub record StandsInOneAge (s : Settings) (files : Files) (l : Library) (script :
   pub kept : Kept files l
   pub age : AreOfOneAge (IsCompared s files l script)
 
--- A LIBRARY OF ONE AGE: each use of each of its builds keeps the very text that its object has by now in each build that shows it
-abbrev pub IsOfOneAge : Library → Type 0
-IsOfOneAge l = (b d : Build) → IsIn l b → IsIn l d → AreOfOneAge (OfBuilds b d)
+-- WORLDS OF ONE AGE
+
+-- a build that a world has: its library has it, or it is loaded
+abbrev pub Has : World → Build → Type 0
+Has w b = IsIn w.library b ⊎ Contains w.loaded b
+
+-- each use of its builds keeps the very text that its object has in each of them that shows it
+abbrev pub IsOfOneAge : World → Type 0
+IsOfOneAge w = (b d : Build) → Has w b → Has w d → AreOfOneAge (OfBuilds b d)
+
+-- the worlds before the lines of a script and behind them, and those of its demos
+pub record StaysInOneAge (s : Settings) (files : Files) (l : Library) (script : List ℕ) : Type 0 where
+  pub worlds : (past rest : List (List ℕ)) → done_lines script ≡ past ++ rest → IsOfOneAge (world_from (answer s) (start files l) 1 past)
+  pub demos : (n k : ℕ) (text : List ℕ) (x : ℕ × World) → Contains (done_lines script) text → line_of text ≡ line.Demo n → k ≤ n → demo_behind n k ≡ Some x → IsOfOneAge x.1
 
 -- a line that compiles nothing
 abbrev pub CompilesNothing : Line → Type 0
