@@ -79,11 +79,11 @@ IsOf l f = (n : List ℕ) × IsOfBuild l n f
 
 -- ---- the one of a name
 
-record Named (P : Face Text → Type 0) (faces : List (Face Text)) (m : List ℕ) (f : Face Text) : Type 0 where
-  has : P f
-  name : m ≡ f.«module»
+pub record Named (P : Face Text → Type 0) (faces : List (Face Text)) (m : List ℕ) (f : Face Text) : Type 0 where
+  pub has : P f
+  pub name : m ≡ f.«module»
 
-named_has : (P : Face Text → Type 0) (faces : List (Face Text)) (m : List ℕ) (f : Face Text) → AllByRecursion P faces → face_named faces m ≡ Some f → Named P faces m f
+pub named_has : (P : Face Text → Type 0) (faces : List (Face Text)) (m : List ℕ) (f : Face Text) → AllByRecursion P faces → face_named faces m ≡ Some f → Named P faces m f
 named_has P [] m f h e = absurd cc
 named_has P (g ∷ gs) m f h e = by (bytes_eq m g.«module») refl e (λ e. named_has P gs m f h.1 e)
   where

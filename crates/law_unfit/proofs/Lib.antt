@@ -1,4 +1,6 @@
 pub mod Followed
+pub mod Sizes
+pub mod Words
 pub mod Around
 pub mod Built
 pub mod Whole
