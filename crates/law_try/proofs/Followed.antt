@@ -149,10 +149,10 @@ module _
     ever kind plain t g i = kinds kind plain n t g ∙ is_to V kind t (target V n t) (stands_in t g) i
 
     never : (kind : Desc → Bool) → IsPlainKind kind → (t : TypeRef) → Good t → (Is V kind t → ⊥) → not (is_kind F n kind t) ≡ true
-    never kind plain t g no = by (is_described kind (shape_at V (target V n t))) refl
+    never kind plain t g ban = by (is_described kind (shape_at V (target V n t))) refl
       where
         by : (b : Bool) → is_described kind (shape_at V (target V n t)) ≡ b → not (is_kind F n kind t) ≡ true
-        by true e = absurd (no (is_from V kind t (target V n t) (stands_in t g) e))
+        by true e = absurd (ban (is_from V kind t (target V n t) (stands_in t g) e))
         by false e = ap not (kinds kind plain n t g ∙ e)
 
     -- ---- 1. types that are named

@@ -98,9 +98,9 @@ placed_of P w at [] h = tt
 placed_of P w at (f ∷ fs) h = (h.0, placed_of P w (at + w f.of) fs h.1)
 
 -- so many numbers from one on
-pub record IsNumbered (from to : ℕ) (p : Method) : Type 0 where
-  pub from : from ≤ p.number
-  pub to : p.number < to
+pub record IsNumbered (first end : ℕ) (p : Method) : Type 0 where
+  pub from : first ≤ p.number
+  pub to : p.number < end
 
 more_numbered : (n m to : ℕ) → n ≤ m → (ps : List Method) → AllByRecursion (IsNumbered m to) ps → AllByRecursion (IsNumbered n to) ps
 more_numbered n m to le [] h = tt
@@ -124,7 +124,7 @@ module _ (D : Map) (M : Module) where
   abbrev pub C : TypeRef → ℕ
   C t = counted D M 201 t
 
-  at : List ℕ → QName
+  abbrev at : List ℕ → QName
   at x = record { «module» = M.name; object = x }
 
   -- ---- its types, laid out and not
@@ -159,7 +159,7 @@ module _ (D : Map) (M : Module) where
   other_plain : (q : QName) → is_own M q ≡ false → V q ≡ D q
   other_plain q i = ap (λ b. cond b (type_named M.types q.object) (D q)) i
 
-  named_own : (q : QName) → is_own M q ≡ true → (record { «module» = M.name; object = q.object } : QName) ≡ q
+  named_own : (q : QName) → is_own M q ≡ true → at q.object ≡ q
   named_own q i = ap (λ (n : List ℕ). let p : QName = record { «module» = n; object = q.object } in p) (sym (same_bytes q.«module» M.name i))
 
   -- what it has of a name, and what that is laid out
@@ -232,7 +232,7 @@ module _ (D : Map) (M : Module) where
 
   -- within fewer than 200 it is within 200
   up : (k n : ℕ) (t : TypeRef) → k + n ≡ 200 → IsWithin V n t → IsWithin V 200 t
-  up zero n t e w = subst (λ m. IsWithin V m t) e w
+  up zero n t e w = let k : n ≡ 200 = omega (arith, e) in subst (λ m. IsWithin V m t) k w
   up (suc k) n t e w = up k (suc n) t (omega (arith, e)) (more n t w)
 
   -- what the type of a name stands on
@@ -254,16 +254,16 @@ module _ (D : Map) (M : Module) where
   times (suc c) a b le = let r = times c a b le in omega (arith, r, le)
 
   described_less : (f : TypeRef → ℕ) (own : Bool) (d : Desc) → AllByRecursion (λ t. f t ≤ W t) (passes_to d) → (own ≡ true → (r : RecordDesc) → d ≡ desc.Record r → ⊥) → described_words f (Some d) ≤ declared_words W own (Some d)
-  described_less f own (desc.Alias m t) h no = h.0
-  described_less f own (desc.Array m n t) h no = times n (f t) (W t) h.0
-  described_less f own (desc.OpenArray m t) h no = omega arith
-  described_less f own (desc.Const v) h no = omega arith
-  described_less f own (desc.Var m t) h no = omega arith
-  described_less f own (desc.Proc s) h no = omega arith
-  described_less f own (desc.Pointer m t) h no = omega arith
-  described_less f own (desc.ProcType m s) h no = omega arith
-  described_less f true (desc.Record r) h no = absurd (no refl r refl)
-  described_less f false (desc.Record r) h no = omega arith
+  described_less f own (desc.Alias m t) h ban = h.0
+  described_less f own (desc.Array m n t) h ban = times n (f t) (W t) h.0
+  described_less f own (desc.OpenArray m t) h ban = omega arith
+  described_less f own (desc.Const v) h ban = omega arith
+  described_less f own (desc.Var m t) h ban = omega arith
+  described_less f own (desc.Proc s) h ban = omega arith
+  described_less f own (desc.Pointer m t) h ban = omega arith
+  described_less f own (desc.ProcType m s) h ban = omega arith
+  described_less f true (desc.Record r) h ban = absurd (ban refl r refl)
+  described_less f false (desc.Record r) h ban = omega arith
 
   kept_less : (n : ℕ) → kept n ≤ n
   kept_less n = omega arith
@@ -285,16 +285,16 @@ module _ (D : Map) (M : Module) where
   words_less k zero e (ref.Basic b) w = omega arith
   words_less k (suc n) e (ref.Basic b) w = omega arith
   words_less k zero e (ref.Named q) w = absurd w
-  words_less k (suc n) e (ref.Named q) w = by (T q) refl
+  words_less k (suc n) e (ref.Named q) w = by (λ t h. words_less (suc k) n (omega (arith, e)) t h) (T q) refl
     where
-      below : (d : Desc) → V q ≡ Some d → AllByRecursion (λ t. words_within T n t ≤ W t) (passes_to d)
-      below d i = passes (λ t. words_within T n t ≤ W t) d (all_from (λ t. IsWithin V n t) (λ t. words_within T n t ≤ W t) (λ t h. words_less (suc k) n (omega (arith, e)) t h) (stands_on d) (subst (λ o. At n o) i w).1)
+      below : ((t : TypeRef) → IsWithin V n t → words_within T n t ≤ W t) → (d : Desc) → V q ≡ Some d → AllByRecursion (λ t. words_within T n t ≤ W t) (passes_to d)
+      below r d i = passes (λ t. words_within T n t ≤ W t) d (all_from (λ t. IsWithin V n t) (λ t. words_within T n t ≤ W t) r (stands_on d) (subst (λ o. At n o) i w).1)
 
       sums : (d : Desc) → V q ≡ Some d → W (ref.Named q) ≡ declared_words W (is_own M q) (Some d)
       sums d i = W_at q d i (all_up k n (stands_on d) (omega (arith, e)) (subst (λ o. At n o) i w).1)
 
-      by : (o : Option Desc) → T q ≡ o → described_words (words_within T n) o ≤ W (ref.Named q)
-      by None i = absurd (nothing (is_own M q) refl)
+      by : ((t : TypeRef) → IsWithin V n t → words_within T n t ≤ W t) → (o : Option Desc) → T q ≡ o → described_words (words_within T n) o ≤ W (ref.Named q)
+      by r None i = absurd (nothing (is_own M q) refl)
         where
           nothing : (b : Bool) → is_own M q ≡ b → ⊥
           nothing true j = gone M.types (sym (own_laid q j) ∙ i) (subst (λ o. At n o) (own_plain q j) w)
@@ -307,16 +307,16 @@ module _ (D : Map) (M : Module) where
                   step true h k r = absurd cc
                   step false h k r = r h k
           nothing false j = subst (λ o. At n o) (other_plain q j ∙ sym (other_laid q j) ∙ i) w
-      by (Some d2) i = own (is_own M q) refl
+      by r (Some d2) i = own (is_own M q) refl
         where
           p : Both q d2
           p = both q d2 i
 
           own : (b : Bool) → is_own M q ≡ b → described_words (words_within T n) (Some d2) ≤ W (ref.Named q)
-          own true j = subst (λ x. described_words (words_within T n) (Some x) ≤ W (ref.Named q)) (sym (p.laid j)) (laid_less (words_within T n) q p.d (sums p.d p.of ∙ ap (λ b. declared_words W b (Some p.d)) j) (below p.d p.of))
+          own true j = subst (λ x. described_words (words_within T n) (Some x) ≤ W (ref.Named q)) (sym (p.laid j)) (laid_less (words_within T n) q p.d (sums p.d p.of ∙ ap (λ b. declared_words W b (Some p.d)) j) (below r p.d p.of))
           own false j =
               subst (λ x. described_words (words_within T n) (Some x) ≤ W (ref.Named q)) (sym (p.same j))
-              (subst (λ k. described_words (words_within T n) (Some p.d) ≤ k) (sym (sums p.d p.of ∙ ap (λ b. declared_words W b (Some p.d)) j)) (described_less (words_within T n) false p.d (below p.d p.of) (λ bad r x. let no : false ≡ true = bad in absurd cc)))
+              (subst (λ k. described_words (words_within T n) (Some p.d) ≤ k) (sym (sums p.d p.of ∙ ap (λ b. declared_words W b (Some p.d)) j)) (described_less (words_within T n) false p.d (below r p.d p.of) (λ bad r x. let ban : false ≡ true = bad in absurd cc)))
 
   -- ---- aliases
 
@@ -407,35 +407,35 @@ module _ (D : Map) (M : Module) where
   target_words n j (ref.Basic b) p s le w e i = absurd (no_basic j b p e)
   target_words zero j (ref.Named q) p s le w e i = absurd w
   target_words (suc n) zero (ref.Named q) p s le w e i = absurd (omega (arith, le))
-  target_words (suc n) (suc j) (ref.Named q) p s le w e i = by (target_of (T q)) refl e
+  target_words (suc n) (suc j) (ref.Named q) p s le w e i = by (target_of (T q)) refl e (λ u v x. target_words n j u p s (omega (arith, le)) v x i)
     where
-      by : (o : Option TypeRef) → target_of (T q) ≡ o → follow o (ref.Named q) (λ u. target T j u) ≡ ref.Named p → described_words (words_within T n) (T q) ≡ s.words
-      by None k e = ap (described_words (words_within T n)) (ap T (named_same q p e) ∙ i)
-      by (Some u) k e =
+      by : (o : Option TypeRef) → target_of (T q) ≡ o → follow o (ref.Named q) (λ u. target T j u) ≡ ref.Named p → ((u : TypeRef) → IsWithin V n u → target T j u ≡ ref.Named p → words_within T n u ≡ s.words) → described_words (words_within T n) (T q) ≡ s.words
+      by None k e r = ap (described_words (words_within T n)) (ap T (named_same q p e) ∙ i)
+      by (Some u) k e r =
           let x = equated q u k in
           let a = alias x.d u x.plain in
           let l = alias x.e u x.now in
           let within : AllByRecursion (λ t. IsWithin V n t) (u ∷ []) = subst (AllByRecursion (λ t. IsWithin V n t)) a.stands (subst (λ o. At n o) x.of w).1 in
-          ap (described_words (words_within T n)) x.laid ∙ l.words (words_within T n) ∙ target_words n j u p s (omega (arith, le)) within.0 e i
+          ap (described_words (words_within T n)) x.laid ∙ l.words (words_within T n) ∙ r u within.0 e
 
   target_counts : (k n j : ℕ) (t : TypeRef) (p : QName) (s : RecordDesc) → k + n ≡ 201 → n ≤ j → IsWithin V n t → target T j t ≡ ref.Named p → T p ≡ Some (desc.Record s) → C t ≡ s.procedures
   unfolding target IsWithin
   target_counts k n j (ref.Basic b) p s m le w e i = absurd (no_basic j b p e)
   target_counts k zero j (ref.Named q) p s m le w e i = absurd w
   target_counts k (suc n) zero (ref.Named q) p s m le w e i = absurd (omega (arith, le))
-  target_counts k (suc n) (suc j) (ref.Named q) p s m le w e i = by (target_of (T q)) refl e
+  target_counts k (suc n) (suc j) (ref.Named q) p s m le w e i = by (target_of (T q)) refl e (λ u v x. target_counts (suc k) n j u p s (omega (arith, m)) (omega (arith, le)) v x i)
     where
       here : T q ≡ Some (desc.Record s) → (b : Bool) → is_own M q ≡ b → C (ref.Named q) ≡ s.procedures
       here h true o = let x = record_of q s o h in sym (ap (λ (r : RecordDesc). r.procedures) x.is)
       here h false o = ap (λ b. declared_procedures (counted D M 200) b (V q)) o ∙ ap (declared_procedures (counted D M 200) false) (other_plain q o ∙ sym (other_laid q o) ∙ h)
 
-      by : (o : Option TypeRef) → target_of (T q) ≡ o → follow o (ref.Named q) (λ u. target T j u) ≡ ref.Named p → C (ref.Named q) ≡ s.procedures
-      by None h e = here (ap T (named_same q p e) ∙ i) (is_own M q) refl
-      by (Some u) h e =
+      by : (o : Option TypeRef) → target_of (T q) ≡ o → follow o (ref.Named q) (λ u. target T j u) ≡ ref.Named p → ((u : TypeRef) → IsWithin V n u → target T j u ≡ ref.Named p → C u ≡ s.procedures) → C (ref.Named q) ≡ s.procedures
+      by None h e r = here (ap T (named_same q p e) ∙ i) (is_own M q) refl
+      by (Some u) h e r =
           let x = equated q u h in
           let a = alias x.d u x.plain in
           let within : AllByRecursion (λ t. IsWithin V n t) (u ∷ []) = subst (AllByRecursion (λ t. IsWithin V n t)) a.stands (subst (λ o. At n o) x.of w).1 in
-          ap (declared_procedures (counted D M 200) (is_own M q)) x.of ∙ a.counts (counted D M 200) (is_own M q) ∙ counts_at_200 u (up k n u (omega (arith, m)) within.0) ∙ target_counts (suc k) n j u p s (omega (arith, m)) (omega (arith, le)) within.0 e i
+          ap (declared_procedures (counted D M 200) (is_own M q)) x.of ∙ a.counts (counted D M 200) (is_own M q) ∙ counts_at_200 u (up k n u (omega (arith, m)) within.0) ∙ r u within.0 e
 
   -- ---- A RECORD of the module, whose words keep the limit, and on which no chain is too long
 

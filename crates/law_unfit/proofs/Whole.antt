@@ -55,23 +55,20 @@ module _ (l : Library) (faces : List (Face Text)) (a : Agreed l faces) where
       let at : Line (described faces) n (Some d) = subst (Line (described faces) n) i line in
       let t = type_at q d k at.0 in
       subst (λ o. described_words (words_within (described faces) n) o ≤ most_words) (sym i)
-      (type_words faces a.spelled a.out k.build k.compiled k.valid k.met k.here t.t t.there t.reached (suc m) n (omega (arith, e)) d t.is at.1 (λ c u is. one u (subst (λ x. AllByRecursion (λ u. IsShallow (described faces) n u) (passes_to x)) is at.1).0))
+      (type_words faces a.spelled a.out k.build k.compiled k.valid k.met k.here t.t t.there t.reached (suc m) n (omega (arith, e)) d t.is at.1 (λ c u is. one (λ p d i h. words_few (suc m) n (omega (arith, e)) p d i h) u (subst (λ x. AllByRecursion (λ u. IsShallow (described faces) n u) (passes_to x)) is at.1).0))
     where
       basic : (n : ℕ) (b : Basic) → words_within (described faces) n (ref.Basic b) ≤ most_words
       basic zero b = omega arith
       basic (suc n) b = omega arith
 
-      one : (u : TypeRef) → IsShallow (described faces) n u → words_within (described faces) n u ≤ most_words
-      one (ref.Basic b) h = basic n b
-      one (ref.Named p) h = by n (described faces p) refl h (λ d i. words_few (suc m) n (omega (arith, e)) p d i h)
-        where
-          there : (n : ℕ) (o : Option Desc) → described faces p ≡ o → IsShallow (described faces) n (ref.Named p) → (d : Desc) × (described faces p ≡ Some d)
-          there zero o i h = absurd h
-          there (suc n) None i h = absurd (subst (Line (described faces) n) i h)
-          there (suc n) (Some d) i h = (d, i)
+      there : (n : ℕ) (p : QName) (o : Option Desc) → described faces p ≡ o → IsShallow (described faces) n (ref.Named p) → (d : Desc) × (described faces p ≡ Some d)
+      there zero p o i h = absurd h
+      there (suc n) p None i h = absurd (subst (Line (described faces) n) i h)
+      there (suc n) p (Some d) i h = (d, i)
 
-          by : (n2 : ℕ) (o : Option Desc) → described faces p ≡ o → IsShallow (described faces) n (ref.Named p) → ((d : Desc) → described faces p ≡ Some d → words_within (described faces) n (ref.Named p) ≤ most_words) → words_within (described faces) n (ref.Named p) ≤ most_words
-          by n2 o i h r = let t = there n o i h in r t.0 t.1
+      one : ((p : QName) (d : Desc) → described faces p ≡ Some d → IsShallow (described faces) n (ref.Named p) → words_within (described faces) n (ref.Named p) ≤ most_words) → (u : TypeRef) → IsShallow (described faces) n u → words_within (described faces) n u ≤ most_words
+      one r (ref.Basic b) h = basic n b
+      one r (ref.Named p) h = let t = there n p (described faces p) refl h in r p t.0 t.1 h
 
   few_fit : (q : QName) (d : Desc) → described faces q ≡ Some d → has_few_words (described faces) (steps_of faces) q d ≡ true
   few_fit q d i = by (is_type d) refl

@@ -88,7 +88,7 @@ module _ (types : Map) where
       by (Some d) h r = (h.0, all_from (λ t. IsShallow types n t) (λ t. IsShallow types (suc n) t) r (passes_to d) h.1)
 
   pub words_all : (k n : ℕ) (t : TypeRef) → k + n ≡ 201 → IsShallow types n t → words_within types n t ≡ words_of types t
-  words_all zero n t e h = ap (λ m. words_within types m t) e
+  words_all zero n t e h = let k : n ≡ 201 = omega (arith, e) in ap (λ m. words_within types m t) k
   words_all (suc k) n t e h = sym (words_stay n t h) ∙ words_all k (suc n) t (omega (arith, e)) (line_more n t h)
 
 -- lines by one map are lines by another that says the same, but for members and sizes of records
