@@ -1,5 +1,0 @@
--- Nothing.
-use Rattle.std.specs.Prelude.{◌≡◌, ℕ}
-
-abbrev pub Nothing : Type 0
-Nothing = Unit {0}
