@@ -2,6 +2,7 @@
 use Rattle.std.proofs.Common.{◌≡◌, ℕ, suc, Bool, true, false, List, [], ◌∷◌, Option, Some, None, refl}
 use Rattle.std.specs.List.{AllByRecursion}
 use Rattle.ob_trap.specs.declared.trap.Trap.{Trap}
+use Rattle.ob_trap.specs.declared.trap.Trap.TheVariants as trap
 use Rattle.ob_tree.specs.declared.pos.Pos.{Pos}
 use Rattle.ob_tree.specs.declared.names.QName.{QName}
 use Rattle.ob_types.specs.declared.types.TypeRef.{TypeRef}
@@ -133,7 +134,7 @@ module _ (x : Context) (Var Proc Rec : QName → Type 0) where
         let p2 = end_cases x cases p1 in (
           (tt, tt),
           all_both L (expr_code x want.Value e (suc pc)) _ (value_ok e (suc pc) h.0)
-              ((tt, tt), all_both L (cases_code x t cases p1 (suc t) y (end_else x otherwise p2)) _ (cases_ok t cases p1 (suc t) y (end_else x otherwise p2) h.1) (else_ok 4 at otherwise p2 (next_cases x cases (suc t)) y h.2)),
+              ((tt, tt), all_both L (cases_code x t cases p1 (suc t) y (end_else x otherwise p2)) _ (cases_ok t cases p1 (suc t) y (end_else x otherwise p2) h.1) (else_ok trap.NoCase at otherwise p2 (next_cases x cases (suc t)) y h.2)),
         )
     stmt_ok (While e body at) pc t y h =
         let p1 = end_expr x want.Value e pc in
@@ -172,7 +173,7 @@ module _ (x : Context) (Var Proc Rec : QName → Type 0) where
     stmt_ok (Return e) pc t y h = result_ok e pc h
     stmt_ok (With branches otherwise at) pc t y h =
         let p1 = end_branches x branches pc in
-        all_both L (branches_code x branches pc t y (end_else x otherwise p1)) _ (branches_ok branches pc t y (end_else x otherwise p1) h.0) (else_ok 5 at otherwise p1 (next_branches x branches t) y h.1)
+        all_both L (branches_code x branches pc t y (end_else x otherwise p1)) _ (branches_ok branches pc t y (end_else x otherwise p1) h.0) (else_ok trap.NoMatch at otherwise p1 (next_branches x branches t) y h.1)
 
     pub stmts_ok : (ss : Stmts) (pc t y : ℕ) → StmtsNamed x.types x.unit.name Var Proc Rec ss → Lines (stmts_code x ss pc t y)
     stmts_ok Nothing pc t y h = tt

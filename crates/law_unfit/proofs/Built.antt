@@ -15,7 +15,7 @@ use Rattle.ob_types.specs.declared.desc.Field.{Field}
 use Rattle.ob_types.specs.declared.desc.Method.{Method}
 use Rattle.ob_types.specs.declared.typed.TypedType.{TypedType}
 use Rattle.ob_types.specs.declared.typed.TypedVariable.{TypedVariable}
-use Rattle.ob_types.specs.Maps.{is_type, listed, signature_types, named_by, IsHeld, IsWithin}
+use Rattle.ob_types.specs.Maps.{is_type, listed, signature_types, stands_on, named_by, IsHeld, IsWithin}
 use Rattle.ob_types.specs.Relations.{Is, Keeps, is_record}
 use Rattle.ob_types.specs.Tests.{target, target_of, follow, shape_at}
 use Rattle.ob_types.specs.TypedView.{module_view}
@@ -28,9 +28,9 @@ use Rattle.ob_layout.specs.Room.{bound_procedures}
 use Rattle.ob_layout.specs.Words.{described_words, words_within, words_of, most_words}
 use Rattle.ob_layout.specs.LaidOut.{type_named, is_own, viewed, base_of, laid_out}
 use Rattle.ob_env.specs.Faces.{Face, object_named, face_named, described, text_in}
-use Rattle.ob_env.specs.Fit.{record_of as record_in, words_before, procedures_before, base_of as base_in, is_inside, is_numbered, names_types, has_bases, keeps_places, has_sound_sizes}
+use Rattle.ob_env.specs.Fit.{chain_described, is_within, record_of as record_in, words_before, procedures_before, base_of as base_in, is_inside, is_numbered, names_types, has_bases, keeps_places, has_sound_sizes}
 use Rattle.ob_env.specs.Shown.{shown}
-use Rattle.ob_env.proofs.Grounded.{all_left, all_right}
+use Rattle.ob_env.proofs.Grounded.{all_left, all_right, stood_held}
 use Rattle.ob_uses_roots.specs.Counts.{Count, Shapes, Layouts, both, own_name, counts_of_desc, counts_of_type, counts_of_variable, counts_of_procedure, counts_of_all, counts_of_mentioned, counts_of_module}
 use Rattle.ob_uses_roots.specs.Noted.{layout_starts}
 use Rattle.ob_uses.specs.declared.way.Way.TheVariants as way
@@ -74,12 +74,13 @@ use Rattle.law_builds_loaded.proofs.Shown.{found_type, shown_type}
 use Rattle.law_builds_loaded.proofs.Used.{IsInside, near_named, leads_near, own_on, variables_on, parameters_near, insides_near}
 use Rattle.law_builds_types.specs.closed_laws.Closed.{IsHeadRuled}
 use Rattle.law_builds_types.proofs.closed_laws.Heads.{heads_ruled}
-use Rattle.law_builds_types.proofs.closed_laws.Lists.{all_by}
+use Rattle.law_builds_types.proofs.closed_laws.Lists.{all_by, sifted}
 use Rattle.law_builds_types.proofs.closed_laws.Objects.{IsTypeIn, type_at, objects_have}
 use Rattle.law_builds_types.proofs.closed_laws.Reached.{IsIn, type_in, variable_in, head_in}
 use Rattle.law_builds_types.proofs.closed_laws.Seen.{keeps_seen, shown_less, seen_named}
 use Rattle.law_headline.proofs.owing_laws.Builds.{builds_ruled}
-use Rattle.law_unfit.proofs.Followed.{Good, stands, names, bases, places}
+use Rattle.law_unfit.proofs.Around.{named_has}
+use Rattle.law_unfit.proofs.Followed.{Good, all_true, stands, names, bases, places}
 use Rattle.law_unfit.specs.Unfit.{is_sized}
 use Rattle.law_unfit.proofs.Words.{line_of, words_all, line_now, line_then}
 use Rattle.law_unfit.proofs.Sizes.{IsPlaced, IsNumbered, T, W, C, fields_inside, field_words, numbers_behind, base_covered, counts_covered, base_words, base_counts}
@@ -121,6 +122,33 @@ kept_test test (y ∷ ys) x i = by (test y) refl i (kept_test test ys x)
     by true e (inl s) r = ap test (sym s) ∙ e
     by true e (inr j) r = r j
     by false e j r = r j
+
+all_two : {A : Type 0} (P Q R : A → Type 0) → ((x : A) → P x → Q x → R x) → (xs : List A) → AllByRecursion P xs → AllByRecursion Q xs → AllByRecursion R xs
+all_two P Q R f [] p q = tt
+all_two P Q R f (x ∷ xs) p q = (f x p.0 q.0, all_two P Q R f xs p.1 q.1)
+
+-- what is seen of a type stands on what it shows, and on what it stands
+stands_seen : (P Q R : TypeRef → Type 0) → ((t : TypeRef) → P t → Q t → R t) → (d : Desc) → AllByRecursion P (shown_types d) → AllByRecursion Q (stands_on d) → AllByRecursion R (stands_on (seen (in_places d)))
+stands_seen P Q R f (desc.Alias m t) p q = (f t p.0 q.0, tt)
+stands_seen P Q R f (desc.Array m n t) p q = (f t p.0 q.0, tt)
+stands_seen P Q R f (desc.OpenArray m t) p q = (f t p.0 q.0, tt)
+stands_seen P Q R f (desc.ProcType m s) p q = all_two P Q R f (signature_types s) p q
+stands_seen P Q R f (desc.Pointer m t) p q = tt
+stands_seen P Q R f (desc.Const v) p q = tt
+stands_seen P Q R f (desc.Var m t) p q = tt
+stands_seen P Q R f (desc.Proc s) p q = tt
+stands_seen P Q R f (desc.Record r) p q =
+    let fs = filter (λ f. is_shown f.mark) r.fields in
+    let ms = filter (λ m. is_shown m.mark) r.methods in
+    let ordered = in_order by_place r.fields in
+    let front = all_left P (listed r.base ++ each (λ f. f.of) fs) (flat_map (λ m. signature_types m.signature) ms) p in
+    let a = sifted (λ f. is_shown f.mark) (λ (f : Field). P f.of) r.fields (all_made (λ (f : Field). f.of) P fs (all_right P (listed r.base) (each (λ f. f.of) fs) front)) in
+    let c = all_made (λ (f : Field). f.of) Q r.fields (all_right Q (listed r.base) (each (λ f. f.of) r.fields) q) in
+    let both_of = all_two (λ (g : Field). is_shown g.mark ≡ true → P g.of) (λ (g : Field). Q g.of) (λ (g : Field). is_shown g.mark ≡ true → R g.of) (λ g h k s. f g.of (h s) k) r.fields a c in
+    let kept_of = all_filtered (λ g. is_shown g.mark) (λ (g : Field). R g.of) ordered (all_in_order by_place (λ (g : Field). is_shown g.mark ≡ true → R g.of) r.fields both_of) in
+    all_both R (listed r.base) (each (λ f. f.of) (filter (λ f. is_shown f.mark) ordered))
+    (all_two P Q R f (listed r.base) (all_left P (listed r.base) (each (λ f. f.of) fs) front) (all_left Q (listed r.base) (each (λ f. f.of) r.fields) q))
+    (all_each (λ (g : Field). g.of) R (filter (λ f. is_shown f.mark) ordered) kept_of)
 
 -- ---- where layouts count
 
@@ -776,3 +804,38 @@ module _
         by (desc.Proc s) j = subst (λ y. is_sized (described others) n (seen (in_places y)) ≡ true) (sym j) refl
         by (desc.Pointer m u) j = subst (λ y. is_sized (described others) n (seen (in_places y)) ≡ true) (sym j) refl
         by (desc.ProcType m s) j = subst (λ y. is_sized (described others) n (seen (in_places y)) ≡ true) (sym j) refl
+
+  -- ---- where all that it was compiled against is there now, chains are as short as they were
+
+  module _ (age : AllByRecursion (λ (f : Face Text). face_named others f.«module» ≡ Some f) (of b).against) where
+    same_now : (q : QName) (e : Desc) → described (of b).against q ≡ Some e → described others q ≡ Some e
+    same_now q e i = by (face_named (of b).against q.«module») refl i
+      where
+        by : (o : Option (Face Text)) → face_named (of b).against q.«module» ≡ o → (o >>= λ (f : Face Text). object_named f.objects q.object) ≡ Some e → described others q ≡ Some e
+        by None j h = absurd cc
+        by (Some f) j h =
+            let n = named_has (λ (f : Face Text). face_named others f.«module» ≡ Some f) (of b).against q.«module» f age j in
+            ap (λ o. o >>= λ (f : Face Text). object_named f.objects q.object) (ap (face_named others) n.name ∙ n.has) ∙ h
+
+    short : (n : ℕ) (t : TypeRef) → IsIn (tree_of b) t → IsWithin (types_of (of b)) n t → is_within (described others) n t ≡ true
+    unfolding IsWithin
+    short n (ref.Basic k) i w = refl
+    short zero (ref.Named q) i w = absurd w
+    short (suc n) (ref.Named q) i w = by (types_of (of b) q) refl w (λ t j k. short n t j k)
+      where
+        by : (o : Option Desc) → types_of (of b) q ≡ o → MatchOption o ⊥ (λ d. IsTrue (is_type d) × AllByRecursion (λ t. IsWithin (types_of (of b)) n t) (stands_on d)) → ((t : TypeRef) → IsIn (tree_of b) t → IsWithin (types_of (of b)) n t → is_within (described others) n t ≡ true) → chain_described (is_within (described others) n) (described others q) ≡ true
+        by None at w r = absurd w
+        by (Some e) at w r = own (is_own (tree_of b) q) refl
+          where
+            own : (k : Bool) → is_own (tree_of b) q ≡ k → chain_described (is_within (described others) n) (described others q) ≡ true
+            own true o =
+                ap (chain_described (is_within (described others) n)) (own_said q e o (i o) (sym (own_view q o) ∙ at))
+                ∙ all_true (is_within (described others) n) (stands_on (seen (in_places e))) (stands_seen (IsIn (tree_of b)) (λ t. IsWithin (types_of (of b)) n t) (λ t. is_within (described others) n t ≡ true) r e (type_in (tree_of b) q e (sym (own_view q o) ∙ at) (i o)) w.1)
+            own false o =
+                let here : described (of b).against q ≡ Some e = sym (other_view q o) ∙ at in
+                let held = stood_held (described (of b).against) e ((against_is_grounded b (of b) valid).held q e here) in
+                ap (chain_described (is_within (described others) n)) (same_now q e here)
+                ∙ all_true (is_within (described others) n) (stands_on e) (all_two (IsIn (tree_of b)) (λ t. IsWithin (types_of (of b)) n t) (λ t. is_within (described others) n t ≡ true) r (stands_on e) (all_from (λ t. IsHeld (described (of b).against) t) (IsIn (tree_of b)) not_own (stands_on e) held) w.1)
+
+    pub type_short : (t : TypedType) → IsOneOf (tree_of b).types t → is_among (reached_types (tree_of b)) (own_name (tree_of b) t) ≡ true → is_within (described others) 201 (ref.Named (own_name (tree_of b) t)) ≡ true
+    type_short t i reached = short 201 (ref.Named (own_name (tree_of b) t)) (λ own. reached) (rules.grounded.chains (ref.Named (own_name (tree_of b) t)) (good_type t i reached).1)

@@ -2,6 +2,7 @@
 use Rattle.std.proofs.Common.{◌≡◌, ◌⊎◌, inl, inr, ℕ, zero, suc, ◌+◌, ◌≤◌, Bool, true, false, cond, not, List, [], ◌∷◌, Option, Some, None, refl, sym, ap, subst, ◌∙◌, arith}
 use Rattle.std.specs.Prelude.{◌&&◌, ◌||◌, bytes_eq, nat_le, MatchOption, IsTrue}
 use Rattle.std.specs.List.{AllByRecursion}
+use Rattle.std.proofs.lemmas.Bool.{false≢true}
 use Rattle.std.specs.Cmp.Lexicographic.{bytes_decides}
 use Rattle.ob_tree.specs.declared.names.QName.{QName}
 use Rattle.ob_tree.specs.declared.ident.Mark.{Mark}
@@ -24,14 +25,14 @@ use Rattle.law_typing_forms.specs.Said.{IsOneOf}
 use Rattle.law_typing_forms.proofs.Modules.{of_all}
 use Rattle.law_builds_types.proofs.closed_laws.Objects.{exact}
 use Rattle.law_lists.proofs.Lists.{and_parts, both_true}
-use Rattle.ob_builds.specs.Builds.{Text, Build, name_of, tree_of, shows_of}
+use Rattle.ob_builds.specs.Builds.{Text, Build, of, name_of, tree_of, shows_of}
 use Rattle.ob_link.specs.Plan.{Entry, Holds}
 use Rattle.ob_shell_model.specs.Library.{Library}
 use Rattle.law_builds.proofs.Faces.{within_limit}
 use Rattle.law_typing_env.specs.Shallow.{passes_to, IsShallow}
-use Rattle.law_unfit.specs.Unfit.{is_sized, fits_else, IsDeep, IsTwice, IsUnfit, FitElse, BuildsFitElse}
+use Rattle.law_unfit.specs.Unfit.{is_sized, fits_else, IsDeep, IsTwice, IsUnfit, IsOfThisAge, FitElse, BuildsFitElse}
 use Rattle.law_unfit.proofs.Around.{IsOf, Named, named_has, Agreed, Described, agreed_of, is_described}
-use Rattle.law_unfit.proofs.Built.{shown_objects, OwnType, own_type, own_line, type_words, type_sizes, objects_good, names_fit, bases_fit, places_fit, name_is}
+use Rattle.law_unfit.proofs.Built.{shown_objects, valid, type_short, OwnType, own_type, own_line, type_words, type_sizes, objects_good, names_fit, bases_fit, places_fit, name_is}
 use Rattle.law_unfit.proofs.Words.{Line}
 
 module _ (l : Library) (faces : List (Face Text)) (a : Agreed l faces) where
@@ -240,7 +241,18 @@ module _ (l : Library) (faces : List (Face Text)) (a : Agreed l faces) where
       ap (described faces) k.object.name ∙ ap (λ x. x >>= λ (f : Face Text). object_named f.objects o.0) (here k.f k.there) ∙ object_here k.f k.there o k.object.there in
       unfit_so (described faces) (steps_of faces) q o.1 i (else_fits l faces a q o.1 i) k.object.unfit
 
+  not_deep : (q : QName) (d : Desc) → described faces q ≡ Some d → IsDeep (described faces) q d → (b : Build) → l.symbols q.«module» ≡ Holds b → IsOfThisAge faces b → ⊥
+  unfolding held_build
+  not_deep q d i deep b holds age =
+      let k = is_described l faces a q d i in
+      let t = type_at l faces a q d k deep.0 in
+      let same : k.build ≡ b = ap (held_build b) (sym k.holds ∙ holds) in
+      let whole = (valid faces a.spelled a.out k.build k.compiled k.valid k.met k.here).whole in
+      let now : AllByRecursion (λ (f : Face Text). face_named faces f.«module» ≡ Some f) (of k.build).against = subst (λ fs. AllByRecursion (λ (f : Face Text). face_named faces f.«module» ≡ Some f) fs) (ap (λ (y : Build). y.against) (sym same) ∙ sym whole) age in
+      let s = subst (λ p. is_within (described faces) 201 (ref.Named p) ≡ true) (name_at l faces a q d k deep.0) (type_short faces a.spelled a.out k.build k.compiled k.valid k.met k.here now t.t t.there t.reached) in
+      false≢true (sym deep.1 ∙ s)
+
 pub builds_fit_else : BuildsFitElse
 builds_fit_else l lib root imports faces w agree =
     let a = agreed_of l lib root imports faces w agree in
-    record { else = else_fits l faces a; unfit = first_unfit_is l faces a }
+    record { else = else_fits l faces a; unfit = first_unfit_is l faces a; grown = not_deep l faces a }
