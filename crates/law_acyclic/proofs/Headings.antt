@@ -328,11 +328,11 @@ module _ (shown : QName → Option Desc) (unit : List ℕ) (kept : IsClosed show
           by : (b : Bool) → HeadsAre base (record { around = knows_procedure v d b; before = record d { known = (knows_procedure v d b).known } ∷ hs.before }) × (IsHeadIn (knows_procedure v d b).own (record d { known = (knows_procedure v d b).known }) × Lies hs.around.own (knows_procedure v d b).own)
           by true =
               let n = by_bound true (record d { known = (knows_procedure v d true).known } ∷ hs.before) in
-              (n, (record { signature = typed.1; told = i.told; made = lies_behind (types_of d.parameters) hs.around.own; sound = Rattle.law_names_procedures.proofs.Knowing.all_both (λ k. IsKnown k.what) d.inside v.known i.sound n.place.sound; entities = all_both (EK v.own) d.inside v.known (i.entities v.own (all_grown unit shown AnyValue hs.around.own v.own grown hs.around.known k.place.knows.known)) n.place.knows.known }, lies_front (types_of d.parameters) hs.around.own))
+              (n, (record { signature = typed.1; told = i.told; made = lies_behind (types_of d.parameters) hs.around.own; sound = all_both (λ k. IsKnown k.what) d.inside v.known i.sound n.place.sound; entities = all_both (EK v.own) d.inside v.known (i.entities v.own (all_grown unit shown AnyValue hs.around.own v.own grown hs.around.known k.place.knows.known)) n.place.knows.known }, lies_front (types_of d.parameters) hs.around.own))
           by false =
               let ks = (knows_procedure v d false).known in
               let n = by_bound false (record d { known = ks } ∷ hs.before) in
-              (n, (record { signature = typed.1; told = i.told; made = lies_behind (types_of d.parameters) hs.around.own; sound = Rattle.law_names_procedures.proofs.Knowing.all_both (λ k. IsKnown k.what) d.inside ks i.sound n.place.sound; entities = all_both (EK v.own) d.inside ks (i.entities v.own (all_grown unit shown AnyValue hs.around.own v.own grown hs.around.known k.place.knows.known)) n.place.knows.known }, lies_front (types_of d.parameters) hs.around.own))
+              (n, (record { signature = typed.1; told = i.told; made = lies_behind (types_of d.parameters) hs.around.own; sound = all_both (λ k. IsKnown k.what) d.inside ks i.sound n.place.sound; entities = all_both (EK v.own) d.inside ks (i.entities v.own (all_grown unit shown AnyValue hs.around.own v.own grown hs.around.known k.place.knows.known)) n.place.knows.known }, lies_front (types_of d.parameters) hs.around.own))
 
   pub heads_are : (base U : Around) (ps : List Written_procedure) → AllByRecursion (λ (p : Written_procedure). AreFirmSections unit shown out path names p.heading.parameters.sections) ps → (hs : Heads) → HeadsAre base hs → (procedures_judged U ps (heads_of ps hs)).notes.broken ≡ [] → ((s : TypedType) → IsOneOf (procedures_judged U ps (heads_of ps hs)).contents.types s → In s) → AllByRecursion (λ (h : Head). Within h.notes.later L) (heads_of ps hs)
       → HeadsAre base (headings_in_order ps hs) × (AllByRecursion (IsHeadIn (headings_in_order ps hs).around.own) (heads_of ps hs) × Lies hs.around.own (headings_in_order ps hs).around.own)
