@@ -1,3 +1,4 @@
+pub mod Owed
 pub mod Followed
 pub mod Sizes
 pub mod Words

@@ -97,39 +97,39 @@ module _
     (says : (q : QName) (e : Desc) → P (ref.Named q) → V q ≡ Some e → is_type e ≡ true → (d : Desc) × ((F q ≡ Some d) × (core d ≡ core e)))
     (leads : (q : QName) (e : Desc) → P (ref.Named q) → V q ≡ Some e → is_type e ≡ true → AllByRecursion P (passes_to e))
     (held : (q : QName) → P (ref.Named q) → IsHeld V (ref.Named q))
-    where
-  all_two : (Q R : TypeRef → Type 0) → ((t : TypeRef) → P t → Q t → R t) → (ts : List TypeRef) → AllByRecursion P ts → AllByRecursion Q ts → AllByRecursion R ts
-  all_two Q R f [] p q = tt
-  all_two Q R f (t ∷ ts) p q = (f t p.0 q.0, all_two Q R f ts p.1 q.1)
+  where
+    all_two : (Q R : TypeRef → Type 0) → ((t : TypeRef) → P t → Q t → R t) → (ts : List TypeRef) → AllByRecursion P ts → AllByRecursion Q ts → AllByRecursion R ts
+    all_two Q R f [] p q = tt
+    all_two Q R f (t ∷ ts) p q = (f t p.0 q.0, all_two Q R f ts p.1 q.1)
 
-  pub line_now : (n : ℕ) (t : TypeRef) → P t → IsShallow V n t → IsShallow F n t
-  unfolding IsShallow
-  line_now zero (ref.Basic b) p h = tt
-  line_now (suc n) (ref.Basic b) p h = tt
-  line_now zero (ref.Named q) p h = h
-  line_now (suc n) (ref.Named q) p h = by (V q) refl h (λ t k l. line_now n t k l)
-    where
-      by : (o : Option Desc) → V q ≡ o → Line V n o → ((t : TypeRef) → P t → IsShallow V n t → IsShallow F n t) → Line F n (F q)
-      by None i h r = absurd h
-      by (Some e) i h r =
-          let s = says q e p i h.0 in
-          let same : passes_to s.0 ≡ passes_to e = sym (passes_core s.0) ∙ ap passes_to s.1.1 ∙ passes_core e in
-          subst (Line F n) (sym s.1.0) (
-            sym (type_kind s.0) ∙ ap is_type s.1.1 ∙ type_kind e ∙ h.0,
-            subst (AllByRecursion (λ t. IsShallow F n t)) (sym same) (all_two (λ t. IsShallow V n t) (λ t. IsShallow F n t) r (passes_to e) (leads q e p i h.0) h.1),
-          )
+    pub line_now : (n : ℕ) (t : TypeRef) → P t → IsShallow V n t → IsShallow F n t
+    unfolding IsShallow
+    line_now zero (ref.Basic b) p h = tt
+    line_now (suc n) (ref.Basic b) p h = tt
+    line_now zero (ref.Named q) p h = h
+    line_now (suc n) (ref.Named q) p h = by (V q) refl h (λ t k l. line_now n t k l)
+      where
+        by : (o : Option Desc) → V q ≡ o → Line V n o → ((t : TypeRef) → P t → IsShallow V n t → IsShallow F n t) → Line F n (F q)
+        by None i h r = absurd h
+        by (Some e) i h r =
+            let s = says q e p i h.0 in
+            let same : passes_to s.0 ≡ passes_to e = sym (passes_core s.0) ∙ ap passes_to s.1.1 ∙ passes_core e in
+            subst (Line F n) (sym s.1.0) (
+              sym (type_kind s.0) ∙ ap is_type s.1.1 ∙ type_kind e ∙ h.0,
+              subst (AllByRecursion (λ t. IsShallow F n t)) (sym same) (all_two (λ t. IsShallow V n t) (λ t. IsShallow F n t) r (passes_to e) (leads q e p i h.0) h.1),
+            )
 
-  pub line_then : (n : ℕ) (t : TypeRef) → P t → IsShallow F n t → IsShallow V n t
-  unfolding IsShallow
-  line_then zero (ref.Basic b) p h = tt
-  line_then (suc n) (ref.Basic b) p h = tt
-  line_then zero (ref.Named q) p h = h
-  line_then (suc n) (ref.Named q) p h = by (V q) refl (held q p) h (λ t k l. line_then n t k l)
-    where
-      by : (o : Option Desc) → V q ≡ o → MatchOption o ⊥ (λ d. IsTrue (is_type d)) → Line F n (F q) → ((t : TypeRef) → P t → IsShallow F n t → IsShallow V n t) → Line V n o
-      by None i k h r = absurd k
-      by (Some e) i k h r =
-          let s = says q e p i k in
-          let same : passes_to s.0 ≡ passes_to e = sym (passes_core s.0) ∙ ap passes_to s.1.1 ∙ passes_core e in
-          let l : Line F n (Some s.0) = subst (Line F n) s.1.0 h in
-          (k, all_two (λ t. IsShallow F n t) (λ t. IsShallow V n t) r (passes_to e) (leads q e p i k) (subst (AllByRecursion (λ t. IsShallow F n t)) same l.1))
+    pub line_then : (n : ℕ) (t : TypeRef) → P t → IsShallow F n t → IsShallow V n t
+    unfolding IsShallow
+    line_then zero (ref.Basic b) p h = tt
+    line_then (suc n) (ref.Basic b) p h = tt
+    line_then zero (ref.Named q) p h = h
+    line_then (suc n) (ref.Named q) p h = by (V q) refl (held q p) h (λ t k l. line_then n t k l)
+      where
+        by : (o : Option Desc) → V q ≡ o → MatchOption o ⊥ (λ d. IsTrue (is_type d)) → Line F n (F q) → ((t : TypeRef) → P t → IsShallow F n t → IsShallow V n t) → Line V n o
+        by None i k h r = absurd k
+        by (Some e) i k h r =
+            let s = says q e p i k in
+            let same : passes_to s.0 ≡ passes_to e = sym (passes_core s.0) ∙ ap passes_to s.1.1 ∙ passes_core e in
+            let l : Line F n (Some s.0) = subst (Line F n) s.1.0 h in
+            (k, all_two (λ t. IsShallow F n t) (λ t. IsShallow V n t) r (passes_to e) (leads q e p i k) (subst (AllByRecursion (λ t. IsShallow F n t)) same l.1))
