@@ -91,7 +91,7 @@ named_has P (g ∷ gs) m f h e = by (bytes_eq m g.«module») refl e (λ e. name
     by true i e r = let k : g ≡ f = cc in record { has = subst P k h.0; name = (bytes_decides m g.«module»).0 i ∙ ap (λ (x : Face Text). x.«module») k }
     by false i e r = let n = r e in record { has = n.has; name = n.name }
 
-all_two : {A : Type 0} (P Q R : A → Type 0) → ((x : A) → P x → Q x → R x) → (xs : List A) → AllByRecursion P xs → AllByRecursion Q xs → AllByRecursion R xs
+pub all_two : {A : Type 0} (P Q R : A → Type 0) → ((x : A) → P x → Q x → R x) → (xs : List A) → AllByRecursion P xs → AllByRecursion Q xs → AllByRecursion R xs
 all_two P Q R f [] p q = tt
 all_two P Q R f (x ∷ xs) p q = (f x p.0 q.0, all_two P Q R f xs p.1 q.1)
 

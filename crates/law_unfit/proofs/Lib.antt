@@ -4,4 +4,5 @@ pub mod Sizes
 pub mod Words
 pub mod Around
 pub mod Built
+pub mod First
 pub mod Whole
