@@ -49,7 +49,7 @@ found_type [] t differ i = absurd i
 found_type (u ∷ ts) t differ (inl e) = subst (λ (z : TypedType). (if bytes_eq z.name u.name then Some u.desc else type_named ts z.name) ≡ Some z.desc) e (ap (λ (b : Bool). if b then Some u.desc else type_named ts u.name) (bytes_same u.name))
 found_type (u ∷ ts) t differ (inr k) = ap (λ (b : Bool). if b then Some u.desc else type_named ts t.name) (other_name t.name u.name (of_all (λ z. z.name ≢ u.name) ts t differ.0 k)) ∙ found_type ts t differ.1 k
 
-shown_type : (m : Module) → AreDistinct (λ t. t.name) m.types → (x : List ℕ) (d : Desc) → object_named (objects_of m) x ≡ Some d → is_type d ≡ true → (e : Desc) × ((type_named m.types x ≡ Some e) × (seen (in_places e) ≡ d))
+pub shown_type : (m : Module) → AreDistinct (λ t. t.name) m.types → (x : List ℕ) (d : Desc) → object_named (objects_of m) x ≡ Some d → is_type d ≡ true → (e : Desc) × ((type_named m.types x ≡ Some e) × (seen (in_places e) ≡ d))
 shown_type m differ x d e ty =
     let t = type_of m (x, d) (object_found (objects_of m) x d e) ty in
     (t.0.desc, (subst (λ y. type_named m.types y ≡ Some t.0.desc) t.1.1.0 (found_type m.types t.0 differ t.1.0), t.1.1.1))

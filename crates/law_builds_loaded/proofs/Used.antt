@@ -196,7 +196,7 @@ module _ (c : Compiled Text) (ruled : IsRuled c) (found : AllByRecursion (λ t. 
   all_near (t ∷ ts) n h = (held_near t n.0 h.0, all_near ts n.1 h.1)
 
   -- what one that counts leads to counts
-  leads_near : (q : QName) (d : Desc) → Near q → types_of c q ≡ Some d → AllByRecursion (On Near) (near_types d)
+  pub leads_near : (q : QName) (d : Desc) → Near q → types_of c q ≡ Some d → AllByRecursion (On Near) (near_types d)
   leads_near q d n e = all_on Near (near_types d) (λ r i. onward n (ap (λ (o : Option Desc). is_among (of_found (desc_leads way.Near c.tree.name q) o) r) e ∙ i))
 
   -- ---- the types of the module
@@ -222,6 +222,14 @@ module _ (c : Compiled Text) (ruled : IsRuled c) (found : AllByRecursion (λ t. 
       let a = starts_front Near (counts_of_type c.tree t) (flat_map (counts_of_type c.tree) ts) on in
       (all_near (named_by t.desc) (named_near (own_name c.tree t) t.desc a.0 e ty.0 a.1 bound.0) (ruled.grounded.held (own_name c.tree t) t.desc e), types_near ts f.1 ty.1 bound.1 (starts_back Near (counts_of_type c.tree t) (flat_map (counts_of_type c.tree) ts) on))
 
+  -- what they name counts
+  types_on : (ts : List TypedType) → AllByRecursion (λ t. type_named c.tree.types t.name ≡ Some t.desc) ts → AllByRecursion (λ t. is_type t.desc ≡ true) ts → AllByRecursion (λ t. AllByRecursion (On Near) (bound_types t.desc)) ts → AllByRecursion (On Near) (shape_starts (flat_map (counts_of_type c.tree) ts)) → AllByRecursion (λ t. Near (own_name c.tree t) × AllByRecursion (On Near) (named_by t.desc)) ts
+  types_on [] f ty bound on = tt
+  types_on (t ∷ ts) f ty bound on =
+      let e : types_of c (own_name c.tree t) ≡ Some t.desc = own_found c.tree t f.0 (described c.against) in
+      let a = starts_front Near (counts_of_type c.tree t) (flat_map (counts_of_type c.tree) ts) on in
+      ((a.0, named_near (own_name c.tree t) t.desc a.0 e ty.0 a.1 bound.0), types_on ts f.1 ty.1 bound.1 (starts_back Near (counts_of_type c.tree t) (flat_map (counts_of_type c.tree) ts) on))
+
   abbrev c1 : List Count
   c1 = counts_of_mentioned c.tree
 
@@ -240,13 +248,19 @@ module _ (c : Compiled Text) (ruled : IsRuled c) (found : AllByRecursion (λ t. 
   own_near : AllByRecursion (λ t. AllByRecursion (declares.IsNear c.tree near) (named_by t.desc)) c.tree.types
   own_near = types_near c.tree.types found types_are ruled.bound (starts_back Near c1 c2 (starts_front Near (c1 ++ c2) c3 counted))
 
+  pub own_on : AllByRecursion (λ t. Near (own_name c.tree t) × AllByRecursion (On Near) (named_by t.desc)) c.tree.types
+  own_on = types_on c.tree.types found types_are ruled.bound (starts_back Near c1 c2 (starts_front Near (c1 ++ c2) c3 counted))
+
   -- the types of its variables
+  pub variables_on : AllByRecursion (λ v. On Near v.of) c.tree.variables
+  variables_on = variables_count Near c.tree.variables (starts_back Near (c1 ++ c2) c3 counted)
+
   near_variables : (vs : List TypedVariable) → AllByRecursion (λ v. On Near v.of) vs → AllByRecursion (λ v. IsHeld (types_of c) v.of) vs → AllByRecursion (λ v. declares.IsNear c.tree near v.of) vs
   near_variables [] n h = tt
   near_variables (v ∷ vs) n h = (held_near v.of n.0 h.0, near_variables vs n.1 h.1)
 
   pub variables_near : AllByRecursion (λ v. declares.IsNear c.tree near v.of) c.tree.variables
-  variables_near = near_variables c.tree.variables (variables_count Near c.tree.variables (starts_back Near (c1 ++ c2) c3 counted)) ruled.variables
+  variables_near = near_variables c.tree.variables variables_on ruled.variables
 
   -- the types of the parameters of its procedures
   formal_count : (k : Mode) (t : TypeRef) → AllByRecursion (On Near) (shape_starts (formal_counts (k, t))) → On Near t

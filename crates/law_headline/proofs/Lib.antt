@@ -1,2 +1,3 @@
 pub mod Whole
+pub mod Room
 pub mod owing_laws

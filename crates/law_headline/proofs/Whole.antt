@@ -22,7 +22,7 @@ use Rattle.ob_builds.specs.Simulated.{Simulation}
 use Rattle.law_builds.proofs.Apart.{entry_named}
 use Rattle.law_builds.proofs.Linked.{builds_are_linked}
 use Rattle.law_builds.proofs.Members.{has_head, has_more}
-use Rattle.law_program_runs.specs.Builds.{program_of, AreLoaded, IsOf}
+use Rattle.law_program_runs.specs.Builds.{program_of, AreLoaded, IsOf, BuildsStand}
 use Rattle.law_program_runs.proofs.Whole.{commands_follow}
 use Rattle.law_program_runs.proofs.Settings.{loaded_front}
 use Rattle.law_local.proofs.Following.{locality_holds}
@@ -137,8 +137,11 @@ module _ (c : Setting) (bs more : List Build) (loaded : AreLoaded (bs ++ more)) 
 left_so : Left
 left_so = record { written = builds_are_written; linked = builds_are_linked; same = same; rules = λ bs more loaded c is. rules c bs more loaded is (steady bs (loaded_front bs more loaded)) }
 
+pub stand : BuildsStand
+stand = left_stands left_so
+
 pub simulation : Simulation
-simulation = commands_follow (left_stands left_so)
+simulation = commands_follow stand
 
 pub promised : Promised
 promised = simulation_suffices simulation

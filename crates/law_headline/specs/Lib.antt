@@ -1,2 +1,3 @@
 pub mod Promised
+pub mod Room
 pub mod owing_laws

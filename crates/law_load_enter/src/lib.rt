@@ -2,7 +2,7 @@
 //! entered.
 #![tactic(auto)]
 
-ghost use Rattle.law_load_enter.specs.Loaded.{CommandsAreThere, LoadedEnter, NamesAreShown, WordsAreCounted};
+ghost use Rattle.law_load_enter.specs.Loaded.{CommandsAreThere, LoadedEnter, LoadedFit, NamesAreShown, WordsAreCounted};
 ghost use Rattle.law_load_enter.specs.Filed.{FilesHave, FilesHaveCommands};
 ghost use Rattle.law_load_enter.specs.Shown.{ShownAreDeclared};
 ghost use Rattle.law_load_enter.specs.Strings.{StringsFit};
@@ -10,12 +10,14 @@ ghost use Rattle.law_load_enter.specs.Entered.{FilesEnter};
 
 /// A law, with nothing to run, of each build of some that are loaded together: its module shows its
 /// own name, the words of its file's globals are those that a plan counts, and its commands have in
-/// the file the numbers of their procedures. And the files can be entered one behind the other
-/// (taken for granted: `BuildsAreWritten` and `BuildsAreLinked`).
+/// the file the numbers of their procedures. The file has a spelling; and the files can be entered
+/// one behind the other, where there is room for the words of their globals (taken for granted:
+/// `BuildsAreWritten` and `BuildsAreLinked`).
 pub fn loaded_files()
     ensures names { NamesAreShown }
     ensures words { WordsAreCounted }
     ensures commands { CommandsAreThere }
+    ensures fits { LoadedFit }
     ensures enterable { LoadedEnter }
 {}
 

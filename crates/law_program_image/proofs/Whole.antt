@@ -2,10 +2,9 @@
 use Rattle.std.proofs.Common.{◌≡◌, ℕ, List, [], ◌∷◌, ◌++◌, length, map, refl, sym, ap, ◌∙◌, subst, append-nil, inl, inr}
 use Rattle.std.specs.Prelude.{◌≤◌, Contains, ◌⊎◌}
 use Rattle.std.specs.List.{AllByRecursion}
-use Rattle.ob_instr.specs.Image.{Image}
 use Rattle.ob_obj.specs.declared.file.ObjFile.{ObjFile}
 use Rattle.ob_obj.specs.Grammar.{file}
-use Rattle.ob_obj.specs.Images.{string_words, entered, image_of, AreEnterable}
+use Rattle.ob_obj.specs.Images.{string_words, image_of, AreEnterable}
 use Rattle.ob_meaning.specs.Values.{Program, description}
 use Rattle.ob_meaning.specs.Commands.{body_name, body_procedure}
 use Rattle.ob_layout.specs.LaidOut.{viewed}
@@ -21,7 +20,7 @@ use Rattle.ob_link.specs.Members.{empty_image}
 use Rattle.ob_compile_model.specs.Compiling.{texts, exports_of, interface_by}
 use Rattle.ob_builds.specs.Builds.{Build, of, tree_of, file_of}
 use Rattle.law_builds.proofs.Members.{In, to_in, of_in}
-use Rattle.law_program_runs.specs.Builds.{program_of, AreLoaded, HasModule, IsOf, BodyStands, AllStand, BuildsStand}
+use Rattle.law_program_runs.specs.Builds.{program_of, AreLoaded, AreEntered, HasModule, IsOf, BodyStands, AllStand, BuildsStand}
 use Rattle.law_program_image.specs.Owed.{in_program, Owed, OwedGives}
 
 module _ (o : Owed) where
@@ -39,15 +38,10 @@ module _ (o : Owed) where
 
   -- FILES
 
-  fits_at : (img : Image) (xs : List Build) (b : Build) → AreEnterable img (map file_of xs) → In xs b → file.fits (file_of b)
-  fits_at img [] b can i = absurd i
-  fits_at img (x ∷ xs) b can (inl e) = subst (λ y. file.fits (file_of y)) e can.0.fits
-  fits_at img (x ∷ xs) b can (inr i) = fits_at (entered img (file_of x)) xs b can.1 i
-
   module_has : (bs : List Build) → AreLoaded bs → (b : Build) → Contains bs b → HasModule (program_of bs) b
   module_has bs l b i =
       let e = same_file bs [] (subst AreLoaded (sym (append-nil bs)) l) b i in
-      let fits = subst file.fits e (fits_at empty_image bs b (o.enterable bs l) (to_in bs b i)) in
+      let fits = subst file.fits e (o.fits bs l b i) in
       let h = files_have (program_of bs) (in_program (program_of bs) b) (o.described bs l) fits in
       record {
         name = o.names bs l b i;
@@ -67,16 +61,16 @@ module _ (o : Owed) where
   body_at c p (x ∷ xs) b h (inl e) = subst (λ y. tables.StandsWithTables c (body_name (tree_of y)) (body_procedure (tree_of y))) e h.0
   body_at c p (x ∷ xs) b h (inr i) = body_at c p xs b h.1 i
 
-  all_stand : (bs more : List Build) → AreLoaded (bs ++ more) → (c : Setting) → IsOf c o.values bs more → AllStand c bs
+  all_stand : (bs more : List Build) → AreEntered (bs ++ more) → (c : Setting) → IsOf c o.values bs more → AllStand c bs
   all_stand bs more l c is =
       let p = program_of bs in
-      let files = same_files p bs more (λ b i. same_file bs more l b (of_in bs b i)) in
+      let files = same_files p bs more (λ b i. same_file bs more l.loaded b (of_in bs b i)) in
       let r = program_from_files c (map (in_program p) bs) (map file_of more) (record {
         room = empty_image.room;
         program = is.program ∙ same_program p bs;
         image = is.image ∙ ap (image_of empty_image) files;
         enterable = subst (AreEnterable empty_image) files (o.enterable (bs ++ more) l);
-      }) (o.rules bs more l c is) in
+      }) (o.rules bs more l.loaded c is) in
       record {
         image = r.image;
         forms = procedures_are_in c r.image.linked;

@@ -2,6 +2,7 @@
 use Rattle.std.specs.Prelude.{◌≡◌, ℕ, List, [], ◌∷◌, ◌++◌, true, map, Some, Contains}
 use Rattle.ob_tree.specs.declared.names.QName.{QName}
 use Rattle.ob_types.specs.TypedSyntax.{Procedure}
+use Rattle.ob_obj.specs.Grammar.{file}
 use Rattle.ob_obj.specs.Images.{global_words, AreEnterable}
 use Rattle.ob_meaning.specs.Values.{Program, description, Formals}
 use Rattle.ob_meaning.specs.Commands.{command_named}
@@ -19,7 +20,7 @@ use Rattle.ob_link.specs.Files.{command_in}
 use Rattle.ob_link.specs.Members.{empty_image}
 use Rattle.ob_compile_model.specs.Compiling.{texts, exports_of, interface_by}
 use Rattle.ob_builds.specs.Builds.{Build, of, tree_of, name_of, file_of, asks}
-use Rattle.law_program_runs.specs.Builds.{program_of, AreLoaded, FormsStay, Values, IsOf, BuildsStand}
+use Rattle.law_program_runs.specs.Builds.{program_of, AreLoaded, AreEntered, FormsStay, Values, IsOf, BuildsStand}
 
 -- A build's module by the descriptions of a whole program: those that it was compiled with lack what is hidden from it.
 abbrev pub in_program : Program → Build → linking.Build
@@ -30,8 +31,10 @@ pub record Owed : Type 0 where
   pub values : Values
   -- modules have different names, and the variables of each have
   pub different : (bs : List Build) → AreLoaded bs → ModulesOk (program_of bs) (program_of bs)
-  -- the files can be entered one behind the other
-  pub enterable : (bs : List Build) → AreLoaded bs → AreEnterable empty_image (map file_of bs)
+  -- a file has a spelling
+  pub fits : (bs : List Build) → AreLoaded bs → (b : Build) → Contains bs b → file.fits (file_of b)
+  -- the files can be entered one behind the other, where there is room for their words
+  pub enterable : (bs : List Build) → AreEntered bs → AreEnterable empty_image (map file_of bs)
   -- the descriptions that a module was compiled with say of what it names what its declarations in the program say
   pub same : (bs more : List Build) → AreLoaded (bs ++ more) → (b : Build) → Contains bs b → ModuleSame (viewed (described (of b).against) (tree_of b)) (description (program_of bs)) (tree_of b)
   -- the declarations of a program say the words, places and elements that its types have

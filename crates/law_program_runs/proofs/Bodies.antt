@@ -24,7 +24,7 @@ use Rattle.ob_load.proofs.Wholes.{no_body, one_body}
 use Rattle.ob_builds.specs.Builds.{Build, tree_of, file_of, asks}
 use Rattle.ob_builds.specs.Simulated as ages
 use Rattle.law_builds.proofs.Members.{has_head, has_right}
-use Rattle.law_program_runs.specs.Builds.{program_of, AreLoaded, HasModule, BuildsStand}
+use Rattle.law_program_runs.specs.Builds.{program_of, AreEntered, HasModule, BuildsStand}
 use Rattle.law_program_runs.proofs.Joins.{others_differ, last_number}
 use Rattle.law_program_runs.proofs.Stops.{IsThere, ends_there}
 use Rattle.law_program_runs.proofs.Shifts.{put}
@@ -38,7 +38,7 @@ pub length_map : {A B : Type 0} (f : A → B) (xs : List A) → length (map f xs
 length_map f [] = refl
 length_map f (x ∷ xs) = ap suc (length_map f xs)
 
-module _ (commands : CommandsSimulate) (bodies : BodiesSimulate) (S : BuildsStand) (heap : ℕ) (few : heap ≤ 4194304) (all : List Build) (l : AreLoaded all) (mn xn : List ℕ) (there : has_command asks (named asks mn all) xn ≡ true) where
+module _ (commands : CommandsSimulate) (bodies : BodiesSimulate) (S : BuildsStand) (heap : ℕ) (few : heap ≤ 4194304) (all : List Build) (l : AreEntered all) (mn xn : List ℕ) (there : has_command asks (named asks mn all) xn ≡ true) where
   abbrev pub img : Image
   img = image_for (map file_of all)
 
@@ -49,10 +49,10 @@ module _ (commands : CommandsSimulate) (bodies : BodiesSimulate) (S : BuildsStan
   command = command_at 0 mn xn (map file_of all)
 
   short : IsShort img
-  short = subst (λ us. AllByRecursion (λ (u : ModuleImage). length u.code ≤ 262144) us) (sym (modules_are empty_image (map file_of all))) (short_so (map file_of all) empty_image (all_map file_of IsShortFile all (all_of (λ b. IsShortFile (file_of b)) all (λ b c. (S.modules all l b c).short))))
+  short = subst (λ us. AllByRecursion (λ (u : ModuleImage). length u.code ≤ 262144) us) (sym (modules_are empty_image (map file_of all))) (short_so (map file_of all) empty_image (all_map file_of IsShortFile all (all_of (λ b. IsShortFile (file_of b)) all (λ b c. (S.modules all l.loaded b c).short))))
 
-  short_front : (bs : List Build) → AreLoaded bs → IsShort (image_for (map file_of bs))
-  short_front bs k = subst (λ us. AllByRecursion (λ (u : ModuleImage). length u.code ≤ 262144) us) (sym (modules_are empty_image (map file_of bs))) (short_so (map file_of bs) empty_image (all_map file_of IsShortFile bs (all_of (λ b. IsShortFile (file_of b)) bs (λ b c. (S.modules bs k b c).short))))
+  short_front : (bs : List Build) → AreEntered bs → IsShort (image_for (map file_of bs))
+  short_front bs k = subst (λ us. AllByRecursion (λ (u : ModuleImage). length u.code ≤ 262144) us) (sym (modules_are empty_image (map file_of bs))) (short_so (map file_of bs) empty_image (all_map file_of IsShortFile bs (all_of (λ b. IsShortFile (file_of b)) bs (λ b c. (S.modules bs k.loaded b c).short))))
 
   -- the bodies and the command came to the same, by the table and by the meaning, and the words left stand for what is left
   pub record Alike (s : State) (r : Last) (en : Ended) : Type 0 where
@@ -108,7 +108,7 @@ module _ (commands : CommandsSimulate) (bodies : BodiesSimulate) (S : BuildsStan
 
   module _ (bs : List Build) (P : Program) (e : all ≡ bs ++ []) (p : P ≡ program_of bs) (rest : List ℤ) (s : State) (w : World) (calls : s.calls ≡ []) where
     is_found : IsFound all mn xn 0
-    is_found = found (program_of all) all mn xn 0 (all_of (HasModule (program_of all)) all (λ b c. S.modules all l b c)) there
+    is_found = found (program_of all) all mn xn 0 (all_of (HasModule (program_of all)) all (λ b c. S.modules all l.loaded b c)) there
 
     program_is : P ≡ program_of all
     program_is = p ∙ ap program_of (sym (append-nil bs) ∙ sym e)

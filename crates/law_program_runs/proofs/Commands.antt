@@ -25,7 +25,7 @@ use Rattle.ob_words.specs.declared.asked.Settings.{Settings}
 use Rattle.ob_builds.specs.Builds.{Build, tree_of, file_of, asks}
 use Rattle.ob_builds.specs.Simulated.{joined, ended, IsPlanned, IsSameRun, StandFor, ran_over}
 use Rattle.ob_builds.specs.Afresh.{AreTogether}
-use Rattle.law_program_runs.specs.Builds.{program_of, AreLoaded, HasModule, BuildsStand}
+use Rattle.law_program_runs.specs.Builds.{program_of, AreEntered, HasModule, BuildsStand}
 use Rattle.law_program_runs.proofs.Images.{image_both, all_words, next_is, globals_of, globals_length, strings_length, IsFull, words_are}
 use Rattle.law_program_runs.proofs.Settings.{map_both, all_of, all_map, are_few, setting, front, large, small, stands_small, stands_large}
 use Rattle.law_program_runs.proofs.Runs.{kept_with, world_with, with_turns}
@@ -64,7 +64,7 @@ ran_is fs gs words heap m x turns = refl
 module _ (commands : CommandsSimulate) (bodies : BodiesSimulate) (B : BuildsStand) (s : Settings) (few : s.heap ≤ 4194304) where
   -- the words stand for the system of these builds
   pub record Standing (bs : List Build) (system : System) (words : List ℤ) (heap : ℕ) : Type 0 where
-    pub loaded : AreLoaded bs
+    pub loaded : AreEntered bs
     pub program : system.program ≡ program_of bs
     pub behind : List ℤ
     pub stands : StandIn (setting B s.heap few bs loaded bs [] system.program (sym (append-nil bs)) program behind) [] (kept_with system 0) (world_with words heap 0)
@@ -75,8 +75,8 @@ module _ (commands : CommandsSimulate) (bodies : BodiesSimulate) (B : BuildsStan
     abbrev all : List Build
     all = bs ++ new
 
-    abbrev l : AreLoaded all
-    l = record { together = together; few = are_few (bs ++ new) together; words = plan.words }
+    abbrev l : AreEntered all
+    l = record { loaded = record { together = together; few = are_few (bs ++ new) together }; words = plan.words }
 
     abbrev P : Program
     P = system.program
@@ -102,17 +102,17 @@ module _ (commands : CommandsSimulate) (bodies : BodiesSimulate) (B : BuildsStan
     rest = drop (all_words files) st.behind
 
     all_have : AllByRecursion (HasModule (program_of all)) all
-    all_have = all_of (HasModule (program_of all)) all (λ b i. B.modules all l b i)
+    all_have = all_of (HasModule (program_of all)) all (λ b i. B.modules all l.loaded b i)
 
     full : AllByRecursion IsFull files
-    full = all_map file_of IsFull new (behind_of bs new (all_of (λ b. IsFull (file_of b)) all (λ b i. (B.modules all l b i).long)))
+    full = all_map file_of IsFull new (behind_of bs new (all_of (λ b. IsFull (file_of b)) all (λ b i. (B.modules all l.loaded b i).long)))
       where
         behind_of : (xs ys : List Build) → AllByRecursion (λ b. IsFull (file_of b)) (xs ++ ys) → AllByRecursion (λ b. IsFull (file_of b)) ys
         behind_of [] ys h = h
         behind_of (x ∷ xs) ys h = behind_of xs ys h.1
 
     have : AllByRecursion (HasModule P) bs
-    have = subst (λ p. AllByRecursion (HasModule p) bs) (sym st.program) (all_of (HasModule (program_of bs)) bs (λ b i. B.modules bs st.loaded b i))
+    have = subst (λ p. AllByRecursion (HasModule p) bs) (sym st.program) (all_of (HasModule (program_of bs)) bs (λ b i. B.modules bs st.loaded.loaded b i))
 
     abbrev front_words : List ℤ
     front_words = Ms (c st.behind) system.made P system.store.globals
@@ -220,8 +220,8 @@ module _ (commands : CommandsSimulate) (bodies : BodiesSimulate) (B : BuildsStan
   unfolding free
   free_parts n a b d e = ap zeros e ∙ sym (zeros_both a (b + d)) ∙ ap (λ l. zeros a ++ l) (sym (zeros_both b d))
 
-  none_loaded : AreLoaded []
-  none_loaded = record { together = tt; few = omega arith; words = omega arith }
+  none_loaded : AreEntered []
+  none_loaded = record { loaded = record { together = tt; few = omega arith }; words = omega arith }
 
   first : Standing [] nothing_loaded (made s.heap).words (made s.heap).heap
   first =

@@ -18,7 +18,7 @@ use Rattle.law_simulation_relation.proofs.Firsts.{zeros}
 use Rattle.law_simulation_relation.proofs.Modules.{M}
 use Rattle.ob_builds.specs.Builds.{Build, tree_of, file_of}
 use Rattle.law_builds.proofs.Members.{has_left, to_in, of_in, In}
-use Rattle.law_program_runs.specs.Builds.{program_of, AreLoaded, HasModule, FormsStay, BuildsStand}
+use Rattle.law_program_runs.specs.Builds.{program_of, AreEntered, HasModule, FormsStay, BuildsStand}
 use Rattle.law_program_runs.proofs.Carried.{Carries}
 use Rattle.law_program_runs.proofs.Joins.{Stays, Differs, Follows, stands_on, first_slots, first_held, others_differ, last_different}
 use Rattle.law_program_runs.proofs.Images.{own_words}
@@ -47,7 +47,7 @@ in_map f [] x i = absurd i
 in_map f (y ∷ xs) x (inl e) = inl (ap f e)
 in_map f (y ∷ xs) x (inr i) = inr (in_map f xs x i)
 
-module _ (S : BuildsStand) (heap : ℕ) (few : heap ≤ 4194304) (all : List Build) (l : AreLoaded all) (bs : List Build) (b : Build) (more : List Build) (P : Program) (e : all ≡ bs ++ (b ∷ more)) (p : P ≡ program_of bs) (rest : List ℤ) where
+module _ (S : BuildsStand) (heap : ℕ) (few : heap ≤ 4194304) (all : List Build) (l : AreEntered all) (bs : List Build) (b : Build) (more : List Build) (P : Program) (e : all ≡ bs ++ (b ∷ more)) (p : P ≡ program_of bs) (rest : List ℤ) where
   abbrev m : Module
   m = tree_of b
 
@@ -66,11 +66,11 @@ module _ (S : BuildsStand) (heap : ℕ) (few : heap ≤ 4194304) (all : List Bui
   abbrev pub behind : Setting
   behind = setting S heap few all l (bs ++ b ∷ []) more next e2 p2 rest
 
-  abbrev pub loaded : AreLoaded (bs ++ b ∷ [])
+  abbrev pub loaded : AreEntered (bs ++ b ∷ [])
   loaded = front S heap few all l (bs ++ b ∷ []) more next e2 p2
 
   stay : FormsStay P m
-  stay = subst (λ x. FormsStay x m) (sym p) (S.forms_stay bs b loaded)
+  stay = subst (λ x. FormsStay x m) (sym p) (S.forms_stay bs b loaded.loaded)
 
   numbers : (fs : Formals) (q : QName) → has_of before fs q → number_of next (has_of behind) behind.img q ≡ number_of P (has_of before) before.img q
   numbers s q h =
@@ -81,7 +81,7 @@ module _ (S : BuildsStand) (heap : ℕ) (few : heap ≤ 4194304) (all : List Bui
   carries : Carries before behind
   carries = record {
     types = λ q t e. stay.types q t e;
-    has = λ s q h. subst (λ x. S.values x s q ≡ true → S.values (x ++ m ∷ []) s q ≡ true) (sym p) (S.values_stay bs b loaded s q) h;
+    has = λ s q h. subst (λ x. S.values x s q ≡ true → S.values (x ++ m ∷ []) s q ≡ true) (sym p) (S.values_stay bs b loaded.loaded s q) h;
     numbers = numbers;
     tags = λ q line fs is. refl;
   }
@@ -91,7 +91,7 @@ module _ (S : BuildsStand) (heap : ℕ) (few : heap ≤ 4194304) (all : List Bui
 
   -- the file of the module has its words
   has : HasModule next b
-  has = subst (λ x. HasModule x b) (sym p2) (S.modules (bs ++ b ∷ []) loaded b (has_last bs b))
+  has = subst (λ x. HasModule x b) (sym p2) (S.modules (bs ++ b ∷ []) loaded.loaded b (has_last bs b))
     where
       in_last : (xs : List Build) (b : Build) → In (xs ++ b ∷ []) b
       in_last [] b = inl refl
@@ -120,8 +120,8 @@ module _ (S : BuildsStand) (heap : ℕ) (few : heap ≤ 4194304) (all : List Bui
     module_as_before : (k : Build) → Contains bs k → (module_held next (tree_of k) ≡ module_held P (tree_of k)) × (module_texts next (tree_of k) ≡ module_texts P (tree_of k))
     module_as_before k c =
         let inside : Contains P (tree_of k) = subst (λ x. Contains x (tree_of k)) (sym p) (of_in (program_of bs) (tree_of k) (in_map tree_of bs k (to_in bs k c))) in
-        let now = S.modules (bs ++ b ∷ []) loaded k (has_left bs (b ∷ []) k c) in
-        let old = S.modules bs (front S heap few all l bs (b ∷ more) P e p) k c in
+        let now = S.modules (bs ++ b ∷ []) loaded.loaded k (has_left bs (b ∷ []) k c) in
+        let old = S.modules bs (front S heap few all l bs (b ∷ more) P e p).loaded k c in
         (stay.variables (tree_of k) inside, ap (λ x. module_texts x (tree_of k)) p2 ∙ sym now.strings ∙ old.strings ∙ ap (λ x. module_texts x (tree_of k)) (sym p))
 
     abbrev AsBefore : Module → Type 0

@@ -17,7 +17,7 @@ use Rattle.ob_load.specs.Command.{image_for}
 use Rattle.ob_builds.specs.Builds.{Build, file_of, asks}
 use Rattle.ob_builds.specs.Afresh.{AreTogether}
 use Rattle.law_builds.proofs.Members.{has_head, has_more}
-use Rattle.law_program_runs.specs.Builds.{program_of, AreLoaded, AllStand, BuildsStand}
+use Rattle.law_program_runs.specs.Builds.{program_of, AreLoaded, AreEntered, AllStand, BuildsStand}
 use Rattle.law_program_runs.proofs.Carried.{Carries}
 use Rattle.law_program_runs.proofs.Joins.{Stays, stands_on}
 use Rattle.law_program_runs.proofs.Images.{new_types, types_are, room_is, image_both, same_number}
@@ -64,17 +64,19 @@ pub loaded_front : (bs more : List Build) → AreLoaded (bs ++ more) → AreLoad
 loaded_front bs more l = record {
   together = together_front [] bs more l.together;
   few = let n = length-append bs more in omega (arith, n, l.few);
-  words = let n = words_both bs more in omega (arith, n, l.words);
 }
+
+pub entered_front : (bs more : List Build) → AreEntered (bs ++ more) → AreEntered bs
+entered_front bs more l = record { loaded = loaded_front bs more l.loaded; words = let n = words_both bs more in omega (arith, n, l.words) }
 
 -- SETTINGS
 
 module _ (S : BuildsStand) (heap : ℕ) (few : heap ≤ 4194304) where
-  module _ (all : List Build) (l : AreLoaded all) where
+  module _ (all : List Build) (l : AreEntered all) where
     -- the first of all of them have joined
     module _ (bs more : List Build) (P : Program) (e : all ≡ bs ++ more) (p : P ≡ program_of bs) where
-      abbrev pub front : AreLoaded bs
-      front = loaded_front bs more (subst AreLoaded e l)
+      abbrev pub front : AreEntered bs
+      front = entered_front bs more (subst AreEntered e l)
 
       abbrev pub setting : List ℤ → Setting
       setting behind = record {
@@ -83,7 +85,7 @@ module _ (S : BuildsStand) (heap : ℕ) (few : heap ≤ 4194304) where
         img = image_for (map file_of all);
         heap = heap;
         behind = behind;
-        ok = subst (λ p. ModulesOk p p) (sym p) (S.different bs front);
+        ok = subst (λ p. ModulesOk p p) (sym p) (S.different bs front.loaded);
         globals = ap (λ r. r.globals) (room_is empty_image (map file_of all));
         stack = ap (λ r. r.stack) (room_is empty_image (map file_of all));
         activations = ap (λ r. r.activations) (room_is empty_image (map file_of all));
@@ -92,11 +94,11 @@ module _ (S : BuildsStand) (heap : ℕ) (few : heap ≤ 4194304) where
       }
 
       pub all_stand : (behind : List ℤ) → AllStand (setting behind) bs
-      all_stand behind = S.stand bs more (subst AreLoaded e l) (setting behind) (record { program = p; image = ap (λ bs. image_for (map file_of bs)) e; has = ap S.values p })
+      all_stand behind = S.stand bs more (subst AreEntered e l) (setting behind) (record { program = p; image = ap (λ bs. image_for (map file_of bs)) e; has = ap S.values p })
 
   -- IN THE IMAGE OF ALL, AND IN THE IMAGE OF THE FIRST ALONE
 
-  module _ (all : List Build) (l : AreLoaded all) (bs more : List Build) (P : Program) (e : all ≡ bs ++ more) (p : P ≡ program_of bs) where
+  module _ (all : List Build) (l : AreEntered all) (bs more : List Build) (P : Program) (e : all ≡ bs ++ more) (p : P ≡ program_of bs) where
     abbrev pub whole : bs ≡ bs ++ []
     whole = sym (append-nil bs)
 

@@ -25,10 +25,14 @@ use Rattle.ob_builds.specs.Afresh.{AreTogether}
 abbrev pub program_of : List Build → Program
 program_of bs = map tree_of bs
 
--- builds that are loaded or planned: each goes together with those before it, and there are few of them, with few words
+-- builds that are loaded or planned: each goes together with those before it, and there are few of them
 pub record AreLoaded (bs : List Build) : Type 0 where
   pub together : AreTogether [] bs
   pub few : length bs ≤ most_modules
+
+-- and there is room for the words of their globals
+pub record AreEntered (bs : List Build) : Type 0 where
+  pub loaded : AreLoaded bs
   pub words : words_of asks bs ≤ most_globals
 
 -- ONE OF THEM
@@ -81,7 +85,7 @@ pub record BuildsStand : Type 0 where
   -- modules have different names, and the variables of each have
   pub different : (bs : List Build) → AreLoaded bs → ModulesOk (program_of bs) (program_of bs)
   pub modules : (bs : List Build) → AreLoaded bs → (b : Build) → Contains bs b → HasModule (program_of bs) b
-  pub stand : (bs more : List Build) → AreLoaded (bs ++ more) → (c : Setting) → IsOf c values bs more → AllStand c bs
+  pub stand : (bs more : List Build) → AreEntered (bs ++ more) → (c : Setting) → IsOf c values bs more → AllStand c bs
   -- what is so of some is so of them with one more behind
   pub forms_stay : (bs : List Build) (b : Build) → AreLoaded (bs ++ b ∷ []) → FormsStay (program_of bs) (tree_of b)
   pub values_stay : (bs : List Build) (b : Build) → AreLoaded (bs ++ b ∷ []) → (fs : Formals) (q : QName) → values (program_of bs) fs q ≡ true → values (program_of bs ++ tree_of b ∷ []) fs q ≡ true

@@ -49,7 +49,7 @@ seen_type (desc.Record r) = refl
 -- ---- in their order
 
 -- an item of a list that rises is found by its name
-exact : (os : List Object) (o : Object) → IsStrictlySortedBy by_name os → IsOneOf os o → object_named os o.0 ≡ Some o.1
+pub exact : (os : List Object) (o : Object) → IsStrictlySortedBy by_name os → IsOneOf os o → object_named os o.0 ≡ Some o.1
 unfolding IsStrictlySortedBy
 exact [] o s h = absurd h
 exact (p ∷ os) o s (inl e) = subst (λ (x : Object). object_named (p ∷ os) x.0 ≡ Some x.1) e (ap (λ (b : Bool). cond b (Some p.1) (object_named os p.0)) (bytes_same p.0))

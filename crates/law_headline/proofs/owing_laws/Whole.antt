@@ -2,7 +2,7 @@
 use Rattle.law_typing_values.specs.Valued.{values}
 use Rattle.law_program_image.proofs.Whole.{builds_stand}
 use Rattle.law_program_names.proofs.Different.{modules_differ}
-use Rattle.law_load_enter.proofs.Whole.{names_are_shown, words_are_counted, commands_are_there, loaded_enter}
+use Rattle.law_load_enter.proofs.Whole.{names_are_shown, words_are_counted, commands_are_there, loaded_fit, loaded_enter}
 use Rattle.law_local.proofs.Following.{locality_holds}
 use Rattle.law_builds_loaded.proofs.Loaded.{loaded_forms_stay, loaded_values_stay}
 use Rattle.law_builds_loaded.proofs.Owing.{loaded_variables, loaded_describe}
@@ -20,6 +20,7 @@ left_gives l =
     record {
       values = values;
       different = modules_differ;
+      fits = loaded_fit l.written;
       enterable = loaded_enter l.written l.linked;
       same = l.same;
       described = loaded_describe l.written r bound (loaded_whole r (loaded_passed l.written r)) (loaded_laid l.written r locality_holds);
