@@ -2,7 +2,6 @@
 use Rattle.std.proofs.Common.{◌≡◌, ℕ, List, [], ◌∷◌, Option, Some, None, refl, ap, ◌∙◌}
 use Rattle.std.specs.Prelude.{map as each, bytes_eq}
 use Rattle.std.specs.Option.{option_map}
-use Rattle.std.specs.List.{AllByRecursion}
 use Rattle.ob_tree.specs.declared.names.QName.{QName}
 use Rattle.ob_tree.specs.declared.print.Print.{Print}
 use Rattle.ob_types.specs.declared.desc.Desc.{Desc}
@@ -12,9 +11,9 @@ use Rattle.ob_env.specs.Stale.{prints_agree, StaleUse, first_among, first_stale}
 use Rattle.ob_env.specs.Fit.{misfit, steps_of, first_unfit}
 use Rattle.ob_env.specs.Answer.{if_fit, if_coherent, standing}
 use Rattle.law_prints.specs.Printed.{Text, stale_printed, standing_printed}
-use Rattle.law_prints.specs.Alike.{Apart}
+use Rattle.law_prints.specs.Alike.{AreCompared, AreToldApart}
 use Rattle.law_prints.proofs.Faces.{described_same, steps_same}
-use Rattle.law_prints.proofs.Stale.{Speaks, stale_is}
+use Rattle.law_prints.proofs.Stale.{stale_is}
 
 -- the first object that does not fit, over a map
 first_over : {K : Type 0} → (QName → Option Desc) → ℕ → List (Face K) → Option QName
@@ -38,5 +37,5 @@ coherent_is None fs = ap (λ (o : Option QName). if_fit o (each printed fs)) (un
 coherent_is (Some u) fs = refl
 
 -- THE ANSWERS of interfaces
-pub standing_is : (P : Text → Type 0) → Apart P → (fs : List (Face Text)) → AllByRecursion (Speaks P) fs → standing prints_agree print_in (each printed fs) ≡ standing_printed (standing bytes_eq text_in fs)
-standing_is P apart fs all = ap (λ (o : Option (StaleUse Print)). if_coherent o (each printed fs)) (stale_is P apart fs all) ∙ coherent_is (first_stale bytes_eq (text_in fs) fs) fs
+pub standing_is : (fs : List (Face Text)) → AreToldApart (AreCompared fs) → standing prints_agree print_in (each printed fs) ≡ standing_printed (standing bytes_eq text_in fs)
+standing_is fs told = ap (λ (o : Option (StaleUse Print)). if_coherent o (each printed fs)) (stale_is fs told) ∙ coherent_is (first_stale bytes_eq (text_in fs) fs) fs

@@ -1,34 +1,28 @@
--- The law: a compile by prints and a compile by texts come to the same, where no two of the texts that are spoken of have one print.
-use Rattle.std.specs.Prelude.{◌≡◌, ◌⊎◌, ℕ, List, [], ◌∷◌, map as each, Option, Some, Bool, true, Result, Ok, Err, Contains}
+-- The law: a compile by prints and a compile by texts come to the same, where prints tell apart what is compared.
+use Rattle.std.specs.Prelude.{◌≡◌, ℕ, List, map as each, Option, Some, Bool, true, Result, Ok, Err, Contains}
 use Rattle.std.specs.List.{AllByRecursion}
-use Rattle.ob_tree.specs.declared.names.QName.{QName}
 use Rattle.ob_tree.specs.declared.print.Print.{Print}
 use Rattle.ob_tree.specs.declared.decl.Module.{Module as Tree}
-use Rattle.ob_types.specs.declared.face.Aspect.{Aspect}
 use Rattle.ob_fprint.specs.Print.{print_from}
 use Rattle.ob_env.specs.Faces.{Wanted, Face, text_in, printed}
-use Rattle.ob_env_walk.specs.Walk.{Entry, Holds}
+use Rattle.ob_env_walk.specs.Walk.{Entry, Holds, Left, walk}
 use Rattle.ob_parse_grammar.specs.TextReading.{reading}
 use Rattle.ob_compile_model.specs.Compiling.{Refusal, Compiled, compiled, texts, prints, imported, object_bytes, symbol_bytes}
 use Rattle.law_prints.specs.Printed.{Text, entry_printed, refusal_printed}
 
--- ---- the texts that are spoken of
+-- ---- what is compared
 
--- a text of an object of the interface
-abbrev pub IsShownBy : Face Text → Text → Type 0
-IsShownBy f t = (q : QName) × (a : Aspect) × (text_in (f ∷ []) q a ≡ Some t)
+-- of a use of one of these interfaces the text that it keeps, and the text that its object has among them
+abbrev pub AreCompared : List (Face Text) → Text → Text → Type 0
+AreCompared faces kept found = (f : Face Text) × Contains faces f × (u : Wanted Text) × Contains f.uses u × (u.kept ≡ kept) × (text_in faces u.object u.aspect ≡ Some found)
 
--- a text that a use of it keeps
-abbrev pub IsKeptBy : Face Text → Text → Type 0
-IsKeptBy f t = (w : Wanted Text) × Contains f.uses w × (w.kept ≡ t)
+-- by a compile of the source: the uses of the interfaces of its walk, with these
+abbrev pub ByCompile : (List ℕ → Entry Text) → Option (List ℕ) → Text → Text → Type 0
+ByCompile finds source kept found = (text : List ℕ) × (tree : Tree) × (faces : List (Face Text)) × (source ≡ Some text) × (reading text ≡ Ok tree) × (walk finds tree.name.name (each imported tree.imports) ≡ Left faces) × AreCompared faces kept found
 
--- an interface that is found speaks of the text
-abbrev pub IsSpokenOf : (List ℕ → Entry Text) → Text → Type 0
-IsSpokenOf finds t = (m : List ℕ) × (f : Face Text) × (finds m ≡ Holds f) × (IsShownBy f t ⊎ IsKeptBy f t)
-
--- no two of these texts that differ have one print
-abbrev pub Apart : (Text → Type 0) → Type 0
-Apart P = (s t : Text) → P s → P t → print_from s ≡ print_from t → s ≡ t
+-- their prints tell apart each two that are compared so
+abbrev pub AreToldApart : (Text → Text → Type 0) → Type 0
+AreToldApart R = (kept found : Text) → R kept found → print_from kept ≡ print_from found → kept ≡ found
 
 -- ---- the same
 
@@ -51,7 +45,7 @@ ComeToTheSame (Err r) (Ok d) = ⊥
 abbrev pub CompilesAlike : Type 0
 CompilesAlike =
     (finds : List ℕ → Entry Text) (files : List ℕ → Entry Print) (source : Option (List ℕ)) →
-    ((m : List ℕ) → files m ≡ entry_printed (finds m)) → Apart (IsSpokenOf finds) →
+    ((m : List ℕ) → files m ≡ entry_printed (finds m)) → AreToldApart (ByCompile finds source) →
     ComeToTheSame (compiled prints files source) (compiled texts finds source)
 
 -- ---- where the same is found for some names alone
@@ -64,14 +58,10 @@ pub record LooksUp (test : List ℕ → Bool) (finds : List ℕ → Entry Text) 
   pub first : (text : List ℕ) (tree : Tree) → source ≡ Some text → reading text ≡ Ok tree → AreAll test (each imported tree.imports)
   pub further : (m : List ℕ) (f : Face Text) → test m ≡ true → finds m ≡ Holds f → AreAll test f.imports
 
--- an interface that is found for a name that passes the test speaks of the text
-abbrev pub IsSpokenOfAmong : (List ℕ → Bool) → (List ℕ → Entry Text) → Text → Type 0
-IsSpokenOfAmong test finds t = (m : List ℕ) × (f : Face Text) × (test m ≡ true) × (finds m ≡ Holds f) × (IsShownBy f t ⊎ IsKeptBy f t)
-
 -- THE LAW among the names that are looked up
 abbrev pub CompilesAlikeAmong : Type 0
 CompilesAlikeAmong =
     (test : List ℕ → Bool) (finds : List ℕ → Entry Text) (files : List ℕ → Entry Print) (source : Option (List ℕ)) →
     LooksUp test finds source →
-    ((m : List ℕ) → test m ≡ true → files m ≡ entry_printed (finds m)) → Apart (IsSpokenOfAmong test finds) →
+    ((m : List ℕ) → test m ≡ true → files m ≡ entry_printed (finds m)) → AreToldApart (ByCompile finds source) →
     ComeToTheSame (compiled prints files source) (compiled texts finds source)
