@@ -9,7 +9,7 @@ use Rattle.ob_types.specs.declared.face.Aspect.{Aspect}
 use Rattle.ob_env.specs.Faces.{Wanted}
 use Rattle.ob_link.specs.Walk.{first_of, or_first}
 use Rattle.ob_link.specs.Plan.{Asks, Refusal, Changed, TooMany, named, is_there, kept_by, present, use_against, use_fails, absent, most_modules, too_many, fails, words_of, has_command}
-use Rattle.law_load_plan.specs.Alike.{wanted_as, refusal_as, FindsAlike, AreMet, AreAskedAlike}
+use Rattle.law_load_plan.specs.Alike.{wanted_as, refusal_as, FindsAlike, UsesFindAlike, AreMet, AreAskedAlike}
 
 abbrev pub IfSome : {A : Type 0} → (A → Type 0) → Option A → Type 0
 IfSome P None = Unit {0}
@@ -68,6 +68,15 @@ module _ {A B K L : Type 0} (asks : Asks A K) (others : Asks B L) (twin : A → 
   named_known name [] k = tt
   named_known name (x ∷ xs) k = holds_if IsKnown (bytes_eq name (asks.name x)) x (named asks name xs) k.0 (named_known name xs k.1)
 
+  -- the module that a name has is of that name
+  named_so : (name : List ℕ) (xs : List A) → IfSome (λ y. bytes_eq name (asks.name y) ≡ true) (named asks name xs)
+  named_so name [] = tt
+  named_so name (x ∷ xs) = go (bytes_eq name (asks.name x)) refl (named_so name xs)
+    where
+      go : (b : Bool) → bytes_eq name (asks.name x) ≡ b → IfSome (λ y. bytes_eq name (asks.name y) ≡ true) (named asks name xs) → IfSome (λ y. bytes_eq name (asks.name y) ≡ true) (if b then Some x else named asks name xs)
+      go true e h = e
+      go false e h = h
+
   kept_as : (o : Option A) → IfSome IsKnown o → (name : List ℕ) (aspect : Aspect) → kept_by others (option_map twin o) name aspect ≡ option_map short (kept_by asks o name aspect)
   kept_as None h name aspect = refl
   kept_as (Some x) h name aspect = alike.keeps x h name aspect
@@ -77,14 +86,14 @@ module _ {A B K L : Type 0} (asks : Asks A K) (others : Asks B L) (twin : A → 
       ap (λ o. kept_by others o q.object aspect) (named_as q.module xs k)
       ∙ kept_as (named asks q.module xs) (named_known q.module xs k) q.object aspect
 
-  found_as : (o : Option A) → IfSome IsKnown o → (u : Wanted K) → ((y : A) → IsKnown y → FindsAlike asks others short y u) → (found : K) → kept_by asks o u.object.object u.aspect ≡ Some found → others.same (short u.kept) (short found) ≡ asks.same u.kept found
-  found_as None h u f found e = absurd cc
-  found_as (Some y) h u f found e = f y h found e
+  found_as : (u : Wanted K) (o : Option A) → IfSome IsKnown o → IfSome (λ y. bytes_eq u.object.module (asks.name y) ≡ true) o → ((y : A) → IsKnown y → FindsAlike asks others short y u) → (found : K) → kept_by asks o u.object.object u.aspect ≡ Some found → others.same (short u.kept) (short found) ≡ asks.same u.kept found
+  found_as u None h n f found e = absurd cc
+  found_as u (Some y) h n f found e = f y h found n e
 
   use_as : (xs : List A) → AllByRecursion IsKnown xs → (client : List ℕ) (u : Wanted K) → ((y : A) → IsKnown y → FindsAlike asks others short y u) → use_fails others (map twin xs) client (wanted_as short u) ≡ option_map (refusal_as short) (use_fails asks xs client u)
   use_as xs k client u f =
       ap (use_against others.same client (wanted_as short u)) (present_as xs k u.object u.aspect)
-      ∙ against_as short asks.same others.same client u (present asks xs u.object u.aspect) (found_as (named asks u.object.module xs) (named_known u.object.module xs k) u f)
+      ∙ against_as short asks.same others.same client u (present asks xs u.object u.aspect) (found_as u (named asks u.object.module xs) (named_known u.object.module xs k) (named_so u.object.module xs) f)
 
   uses_as : (xs : List A) → AllByRecursion IsKnown xs → (client : List ℕ) (us : List (Wanted K)) → AllByRecursion (λ u. (y : A) → IsKnown y → FindsAlike asks others short y u) us → first_of (use_fails others (map twin xs) client) (map (wanted_as short) us) ≡ option_map (refusal_as short) (first_of (use_fails asks xs client) us)
   uses_as xs k client [] f = refl
@@ -94,11 +103,11 @@ module _ {A B K L : Type 0} (asks : Asks A K) (others : Asks B L) (twin : A → 
       ∙ first_mapped (refusal_as short) (use_fails asks xs client u) (first_of (use_fails asks xs client) us)
 
   -- the uses with the module's own name and uses on the other side
-  own_uses_as : (xs : List A) → AllByRecursion IsKnown xs → (x : A) → IsKnown x → first_of (use_fails others (map twin xs) (others.name (twin x))) (others.uses (twin x)) ≡ option_map (refusal_as short) (first_of (use_fails asks xs (asks.name x)) (asks.uses x))
-  own_uses_as xs k x h =
+  own_uses_as : (xs : List A) → AllByRecursion IsKnown xs → (x : A) → IsKnown x → UsesFindAlike asks others short IsKnown x → first_of (use_fails others (map twin xs) (others.name (twin x))) (others.uses (twin x)) ≡ option_map (refusal_as short) (first_of (use_fails asks xs (asks.name x)) (asks.uses x))
+  own_uses_as xs k x h f =
       ap (λ n. first_of (use_fails others (map twin xs) n) (others.uses (twin x))) (alike.name x h)
       ∙ ap (first_of (use_fails others (map twin xs) (asks.name x))) (alike.uses x h)
-      ∙ uses_as xs k (asks.name x) (asks.uses x) (alike.same x h)
+      ∙ uses_as xs k (asks.name x) (asks.uses x) f
 
   links_as : (xs : List A) → AllByRecursion IsKnown xs → (x : A) → IsKnown x → AreMet asks xs x → absent {K = L} (others.name (twin x)) (others.unlinked (map twin xs) (twin x)) ≡ option_map (refusal_as short) (absent {K = K} (asks.name x) (asks.unlinked xs x))
   links_as xs k x h met =
@@ -117,9 +126,9 @@ module _ {A B K L : Type 0} (asks : Asks A K) (others : Asks B L) (twin : A → 
       ∙ first_mapped (refusal_as short) (absent {K = K} (asks.name x) (asks.unlinked xs x)) (too_many {K = K} (length xs + 1))
 
   -- WHAT REFUSES A MODULE behind these
-  pub fails_as : (xs : List A) → AllByRecursion IsKnown xs → (x : A) → IsKnown x → fails others (map twin xs) (twin x) ≡ option_map (refusal_as short) (fails asks xs x)
-  fails_as xs k x h =
-      ap (λ o. or_first o (or_first (absent {K = L} (others.name (twin x)) (others.unlinked (map twin xs) (twin x))) (too_many {K = L} (length (map twin xs) + 1)))) (own_uses_as xs k x h)
+  pub fails_as : (xs : List A) → AllByRecursion IsKnown xs → (x : A) → IsKnown x → UsesFindAlike asks others short IsKnown x → fails others (map twin xs) (twin x) ≡ option_map (refusal_as short) (fails asks xs x)
+  fails_as xs k x h f =
+      ap (λ o. or_first o (or_first (absent {K = L} (others.name (twin x)) (others.unlinked (map twin xs) (twin x))) (too_many {K = L} (length (map twin xs) + 1)))) (own_uses_as xs k x h f)
       ∙ behind_uses xs k x h (first_of (use_fails asks xs (asks.name x)) (asks.uses x)) refl
 
   pub words_as : (xs : List A) → AllByRecursion IsKnown xs → words_of others (map twin xs) ≡ words_of asks xs

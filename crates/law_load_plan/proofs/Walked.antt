@@ -6,7 +6,7 @@ use Rattle.std.specs.List.{AllByRecursion}
 use Rattle.std.proofs.lemmas.List.{map-append}
 use Rattle.ob_link.specs.Walk.{has, and_then, all_in_turn, leaves, enters, visit, most_deep}
 use Rattle.ob_link.specs.Plan.{Entry, Missing, TooLong, Junk, Holds, Asks, Refusal, NoObject, Cycle, NoRoom, NoCommand, named, is_there, fails, newest, entered, steps, most_globals, words_of, has_command, planned, plan}
-use Rattle.law_load_plan.specs.Alike.{entry_as, refusal_as, AreAskedAlike, EntryHas, AreEntriesAlike, Agrees}
+use Rattle.law_load_plan.specs.Alike.{entry_as, refusal_as, UsesFindAlike, AreAskedAlike, EntryHas, AreEntriesAlike, Agrees}
 use Rattle.law_load_plan.proofs.Asked.{all_joined, fails_as, words_as, command_as, there_as}
 
 module _ {A B K L : Type 0} (asks : Asks A K) (others : Asks B L) (twin : A → B) (short : K → L) (IsKnown : A → Type 0) (alike : AreAskedAlike asks others twin short IsKnown) where
@@ -49,21 +49,21 @@ module _ {A B K L : Type 0} (asks : Asks A K) (others : Asks B L) (twin : A → 
     both_known : (left : List A) → AllKnown left → AllKnown (loaded ++ left)
     both_known left k = all_joined IsKnown loaded left known k
 
-    leaves_agree : (x : A) → IsKnown x → (now : List A) → AllKnown now → Agree (leaves (fails asks (loaded ++ now) x) x now) (leaves (fails others (map twin loaded ++ map twin now) (twin x)) (twin x) (map twin now))
-    leaves_agree x h now k =
+    leaves_agree : (x : A) → IsKnown x → UsesFindAlike asks others short IsKnown x → (now : List A) → AllKnown now → Agree (leaves (fails asks (loaded ++ now) x) x now) (leaves (fails others (map twin loaded ++ map twin now) (twin x)) (twin x) (map twin now))
+    leaves_agree x h f now k =
         subst (λ xs. Agree (leaves (fails asks (loaded ++ now) x) x now) (leaves (fails others xs (twin x)) (twin x) (map twin now))) (map-append twin loaded now)
-        (subst (λ o. Agree (leaves (fails asks (loaded ++ now) x) x now) (leaves o (twin x) (map twin now))) (sym (fails_as asks others twin short IsKnown alike (loaded ++ now) (both_known now k) x h))
+        (subst (λ o. Agree (leaves (fails asks (loaded ++ now) x) x now) (leaves o (twin x) (map twin now))) (sym (fails_as asks others twin short IsKnown alike (loaded ++ now) (both_known now k) x h f))
         (left_case (fails asks (loaded ++ now) x) x h now k))
 
-    module _ (entry : List ℕ → Entry A) (other : List ℕ → Entry B) (IsAsked : List ℕ → Type 0) (entries : AreEntriesAlike asks entry other twin IsKnown IsAsked) where
-      enters_agree : (v : Visit) (w : OtherVisit) → VisitsAgree IsAsked v w → (name : List ℕ) (e : Entry A) → EntryHas IsKnown e → (left : List A) → AllKnown left → Agree (enters (steps asks entry loaded) v (entered name e) left) (enters (steps others other (map twin loaded)) w (entered name (entry_as twin e)) (map twin left))
-      enters_agree v w h name Missing e left k = record { is = refl; known = tt }
-      enters_agree v w h name TooLong e left k = record { is = refl; known = tt }
-      enters_agree v w h name Junk e left k = record { is = refl; known = tt }
-      enters_agree v w h name (Holds x) e left k =
+    module _ (entry : List ℕ → Entry A) (other : List ℕ → Entry B) (IsAsked : List ℕ → Type 0) (entries : AreEntriesAlike asks others entry other twin short IsKnown IsAsked) where
+      enters_agree : (v : Visit) (w : OtherVisit) → VisitsAgree IsAsked v w → (name : List ℕ) → IsAsked name → (e : Entry A) → entry name ≡ e → EntryHas IsKnown e → (left : List A) → AllKnown left → Agree (enters (steps asks entry loaded) v (entered name e) left) (enters (steps others other (map twin loaded)) w (entered name (entry_as twin e)) (map twin left))
+      enters_agree v w h name n Missing is e left k = record { is = refl; known = tt }
+      enters_agree v w h name n TooLong is e left k = record { is = refl; known = tt }
+      enters_agree v w h name n Junk is e left k = record { is = refl; known = tt }
+      enters_agree v w h name n (Holds x) is e left k =
           subst (λ names. Agree (and_then (all_in_turn v (asks.imports x) left) (λ now. leaves (fails asks (loaded ++ now) x) x now)) (and_then (all_in_turn w names (map twin left)) (λ now. leaves (fails others (map twin loaded ++ now) (twin x)) (twin x) now))) (sym (alike.imports x e))
-          (then_agree (all_in_turn v (asks.imports x) left) (all_in_turn w (asks.imports x) (map twin left)) (all_agree IsAsked v w h (asks.imports x) (entries.imports x e) left k)
-          (λ now. leaves (fails asks (loaded ++ now) x) x now) (λ now. leaves (fails others (map twin loaded ++ now) (twin x)) (twin x) now) (leaves_agree x e))
+          (then_agree (all_in_turn v (asks.imports x) left) (all_in_turn w (asks.imports x) (map twin left)) (all_agree IsAsked v w h (asks.imports x) (entries.imports name x n is) left k)
+          (λ now. leaves (fails asks (loaded ++ now) x) x now) (λ now. leaves (fails others (map twin loaded ++ now) (twin x)) (twin x) now) (leaves_agree x e (entries.uses name x n is)))
 
       visited_agree : (b c : Bool) (path : List (List ℕ)) (name : List ℕ) (left : List A) → AllKnown left → (r : Answer) (s : Other) → Agree r s → Agree (if b then Ok left else if c then Err (Cycle (newest name path)) else r) (if b then Ok (map twin left) else if c then Err (Cycle (newest name path)) else s)
       visited_agree true c path name left k r s a = record { is = refl; known = k }
@@ -82,7 +82,7 @@ module _ {A B K L : Type 0} (asks : Asks A K) (others : Asks B L) (twin : A → 
           subst (λ b. Agree (visit (steps asks entry loaded) (suc deep) path name left) (if bytes_eq name (codes "Out") || b then Ok (map twin left) else if has name path then Err (Cycle (newest name path)) else other_into (other name))) (sym (passed_as name left k))
           (subst (λ e. Agree (visit (steps asks entry loaded) (suc deep) path name left) (if bytes_eq name (codes "Out") || is_there (named asks name (loaded ++ left)) then Ok (map twin left) else if has name path then Err (Cycle (newest name path)) else other_into e)) (sym (entries.is name n))
           (visited_agree (bytes_eq name (codes "Out") || is_there (named asks name (loaded ++ left))) (has name path) path name left k into (other_into (entry_as twin (entry name)))
-          (enters_agree (visit (steps asks entry loaded) deep (name ∷ path)) (visit (steps others other (map twin loaded)) deep (name ∷ path)) (visits_agree deep (name ∷ path)) name (entry name) (entries.known name n) left k)))
+          (enters_agree (visit (steps asks entry loaded) deep (name ∷ path)) (visit (steps others other (map twin loaded)) deep (name ∷ path)) (visits_agree deep (name ∷ path)) name n (entry name) refl (entries.known name n) left k)))
 
       -- ---- behind the walk
 

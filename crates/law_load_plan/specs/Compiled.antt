@@ -9,7 +9,6 @@ use Rattle.ob_types.specs.declared.face.Aspect.TheVariants as aspect
 use Rattle.ob_types.specs.Maps.{is_type}
 use Rattle.ob_types.specs.TypedSyntax.{Procedure}
 use Rattle.ob_format.specs.Names.{is_identifier}
-use Rattle.ob_fprint.specs.Print.{print_from}
 use Rattle.ob_desc.specs.Grammar.{seen, shape_text}
 use Rattle.ob_obj.specs.declared.file.ObjFile.{ObjFile}
 use Rattle.ob_meaning.specs.Commands.{is_hidden, command_named}
@@ -26,10 +25,6 @@ use Rattle.law_load_plan.specs.Alike.{AreMet}
 
 abbrev pub Text : Type 0
 Text = List ℕ
-
--- no two of these texts that differ have one print
-abbrev pub AreApart : (Text → Type 0) → Type 0
-AreApart P = (s t : Text) → P s → P t → print_from s ≡ print_from t → s ≡ t
 
 -- what an object of a module has, as its interface says
 abbrev pub text_shown : Face Text → List ℕ → Aspect → Option Text

@@ -26,7 +26,7 @@ use Rattle.law_load_plan.specs.Compiled.{Text, AreProceduresNamed}
 -- other, and the refusals are named alike.
 abbrev pub PlansAgree : Type 1
 PlansAgree = (A B K L : Type 0) (asks : Asks A K) (others : Asks B L) (twin : A → B) (short : K → L) (IsKnown : A → Type 0) (IsAsked : List ℕ → Type 0) (entry : List ℕ → Entry A) (other : List ℕ → Entry B) →
-    AreAskedAlike asks others twin short IsKnown → AreEntriesAlike asks entry other twin IsKnown IsAsked →
+    AreAskedAlike asks others twin short IsKnown → AreEntriesAlike asks others entry other twin short IsKnown IsAsked →
     (loaded : List A) → AllByRecursion IsKnown loaded → (name command : List ℕ) → IsAsked name →
     Agrees twin short IsKnown (plan asks entry loaded name command) (plan others other (map twin loaded) name command)
 
