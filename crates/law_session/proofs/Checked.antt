@@ -1,6 +1,6 @@
 -- A check over kept files is the check over the library.
-use Rattle.std.proofs.Common.{◌≡◌, ℕ, ◌≤◌, List, [], ◌∷◌, length, Bool, true, false, cond, refl, sym, ap, ◌∙◌, subst, arith, Option, Some, None, inl, inr}
-use Rattle.std.specs.Prelude.{map, nat_lt, bytes_eq}
+use Rattle.std.proofs.Common.{◌≡◌, ℕ, ◌≤◌, List, [], ◌∷◌, length, Bool, true, false, cond, refl, sym, ap, ◌∙◌, subst, arith, Option, Some, None}
+use Rattle.std.specs.Prelude.{map, nat_lt, bytes_eq, Contains}
 use Rattle.std.specs.Option.{option_map}
 use Rattle.std.specs.List.{AllByRecursion}
 use Rattle.std.proofs.lemmas.Bool.{false≢true}
@@ -33,15 +33,13 @@ use Rattle.ob_parse_grammar.specs.Identifiers.{is_identifier}
 use Rattle.ob_builds.specs.Builds.{Text, Build, IsValid, of, shows_of, name_of, file_of, bytes_of, symbols_of as written_symbols}
 use Rattle.ob_shell_model.specs.Library.{Library, IsLibrary, IsEntry, Kept, ObjectKept, SymbolKept}
 use Rattle.ob_shell_model.specs.Model.{face_present, uses_present, check_in}
-use Rattle.ob_builds.specs.Apart.{Apart, IsTextOfBuild}
-use Rattle.ob_builds.specs.Local.{AreAsWanted}
 use Rattle.ob_builds.specs.Written.{IsWritten, BuildsAreWritten}
-use Rattle.ob_shell_model.specs.Headline.{IsIn}
-use Rattle.law_session.specs.Composing.{IsTextIn, ChecksAlike}
+use Rattle.ob_shell_model.specs.OneAge.{ByCheck, AreToldApart}
+use Rattle.law_session.specs.Composing.{ChecksAlike}
 use Rattle.law_builds.proofs.Compiled.{comes, short}
 use Rattle.law_builds.proofs.Faces.{of_is, uses_back, face_back, not_beyond, within_limit, whole_symbols, short_symbols}
 use Rattle.law_session.proofs.Spelled.{uses_named}
-use Rattle.law_builds.proofs.Kept.{uses_kept, kept_text, shown_text}
+use Rattle.law_builds.proofs.Members.{has_head, has_more}
 use Rattle.law_lists.proofs.Lists.{bytes_same}
 
 -- WHAT IS FOUND
@@ -176,7 +174,7 @@ prints_same : (a b : Print) → bytes_eq a.0 b.0 ≡ true → a ≡ b
 unfolding print_of
 prints_same a b e = ap print_of ((bytes_eq-Decides a.0 b.0).0 e)
 
-agree_same : (k t : Text) → (print_from k ≡ print_from t → k ≡ t) → prints_agree (print_from k) (print_from t) ≡ bytes_eq k t
+pub agree_same : (k t : Text) → (print_from k ≡ print_from t → k ≡ t) → prints_agree (print_from k) (print_from t) ≡ bytes_eq k t
 agree_same k t apart = go (prints_agree (print_from k) (print_from t)) (bytes_eq k t) refl refl
   where
     go : (x y : Bool) → prints_agree (print_from k) (print_from t) ≡ x → bytes_eq k t ≡ y → x ≡ y
@@ -212,25 +210,23 @@ use_same w (Holds b) told r q h =
 
 -- ALL USES
 
-module _ (written : BuildsAreWritten) (files : Files) (l : Library) (m : List ℕ) (library : IsLibrary l) (kept : Kept files l) (apart : Apart (IsTextIn l [])) where
-  told : (w : Wanted Text) → IsTextIn l [] w.kept → (e : Entry Build) → l.symbols w.object.«module» ≡ e → IsEntry w.object.«module» e → IsTold w e
-  told w k Missing e i = tt
-  told w k TooLong e i = tt
-  told w k Junk e i = tt
-  told w k (Holds b) e i = λ t x p. apart w.kept t k (b, inl (w.object.«module», inr e), inl (shown_text (shows_of b) w.object w.aspect t (sym i.2) (bytes_same w.object.«module» (name_of b) (sym i.2)) x)) p
+module _ (written : BuildsAreWritten) (files : Files) (l : Library) (m : List ℕ) (library : IsLibrary l) (kept : Kept files l) (told : AreToldApart (ByCheck l m)) where
+  told_of : (b : Build) → l.objects m ≡ Holds b → (w : Wanted Text) → Contains (shows_of b).uses w → (e : Entry Build) → l.symbols w.object.«module» ≡ e → IsEntry w.object.«module» e → IsTold w e
+  told_of b o w c Missing e i = tt
+  told_of b o w c TooLong e i = tt
+  told_of b o w c Junk e i = tt
+  told_of b o w c (Holds d) e i = λ t x p.
+      let is : text_in (shows_of d ∷ []) w.object w.aspect ≡ Some t = ap (λ x. (cond x (Some (shows_of d)) None >>= λ f. object_named f.objects w.object.object) >>= λ y. text_of w.object y w.aspect) (bytes_same w.object.«module» (name_of d) (sym i.2)) ∙ x in
+      told w.kept t (b, d, w.object.«module», o, e, (w, c, refl, is)) p
 
-  uses_same : (us : List (Wanted Text)) → AllByRecursion (λ u. is_identifier u.object.«module» ≡ true) us → AllByRecursion (λ u. IsTextIn l [] u.kept) us → checked_uses prints_agree print_of_desc (symbols_of files) (map as_print us) ≡ checked_uses bytes_eq text_of (λ n. face_present (l.symbols n)) us
+  uses_same : (b : Build) → l.objects m ≡ Holds b → (us : List (Wanted Text)) → AllByRecursion (λ u. is_identifier u.object.«module» ≡ true) us → ((u : Wanted Text) → Contains us u → Contains (shows_of b).uses u) → checked_uses prints_agree print_of_desc (symbols_of files) (map as_print us) ≡ checked_uses bytes_eq text_of (λ n. face_present (l.symbols n)) us
   unfolding symbols_of
-  uses_same [] n k = refl
-  uses_same (u ∷ us) n k =
+  uses_same b o [] n among = refl
+  uses_same b o (u ∷ us) n among =
       let name = u.object.«module» in
       let e = l.symbols name in
       ap (λ p. beside prints_agree print_of_desc (as_print u) p (checked_uses prints_agree print_of_desc (symbols_of files) (map as_print us))) (face_found_same written name (files (symbol_name name)) e (kept.symbols name n.0) (library.symbols name))
-      ∙ use_same u e (told u k.0 e refl (library.symbols name)) (checked_uses prints_agree print_of_desc (symbols_of files) (map as_print us)) (checked_uses bytes_eq text_of (λ n. face_present (l.symbols n)) us) (uses_same us n.1 k.1)
-
-  texts_in : (b : Build) (c : Compiled Text) → IsValid b c → IsIn l b → (us : List (Wanted Text)) → AreAsWanted c.against us → AllByRecursion (λ u. IsTextIn l [] u.kept) us
-  texts_in b c v i [] h = tt
-  texts_in b c v i (u ∷ us) h = ((b, inl i, kept_text b c v u h.0), texts_in b c v i us h.1)
+      ∙ use_same u e (told_of b o u (among u (has_head u us)) e refl (library.symbols name)) (checked_uses prints_agree print_of_desc (symbols_of files) (map as_print us)) (checked_uses bytes_eq text_of (λ n. face_present (l.symbols n)) us) (uses_same b o us n.1 (λ x c. among x (has_more u us x c)))
 
   entry_same : (e : Entry Build) → l.objects m ≡ e → IsEntry m e → checked prints_agree print_of_desc (symbols_of files) m (present_as (map as_print) (uses_present e)) ≡ checked bytes_eq text_of (λ n. face_present (l.symbols n)) m (uses_present e)
   entry_same Missing e i = refl
@@ -239,9 +235,9 @@ module _ (written : BuildsAreWritten) (files : Files) (l : Library) (m : List �
   entry_same (Holds b) e i =
       let c = i.0 in
       let s : c.shows ≡ shows_of b = ap (λ (x : Compiled Text). x.shows) (sym (of_is b c i.1)) in
-      uses_same (shows_of b).uses
+      uses_same b e (shows_of b).uses
       (subst (λ (f : Face Text). AllByRecursion (λ u. is_identifier u.object.«module» ≡ true) f.uses) s (uses_named c.shows (written b c i.1).symbols))
-      (subst (λ (f : Face Text). AllByRecursion (λ u. IsTextIn l [] u.kept) f.uses) s (texts_in b c i.1 (m, inl e) c.shows.uses (uses_kept b c i.1)))
+      (λ u c. c)
 
   all_same : is_identifier m ≡ true → check_of files m ≡ check_in l m
   unfolding object_of
@@ -250,4 +246,4 @@ module _ (written : BuildsAreWritten) (files : Files) (l : Library) (m : List �
       ∙ entry_same (l.objects m) refl (library.objects m)
 
 pub checks_so : BuildsAreWritten → ChecksAlike
-checks_so written files l m n library kept apart = all_same written files l m library kept apart n
+checks_so written files l m n library kept told = all_same written files l m library kept told n

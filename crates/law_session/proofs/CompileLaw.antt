@@ -15,7 +15,6 @@ use Rattle.law_session.specs.Composing.{SameCompile}
 use Rattle.law_session.specs.Kept.{KeptCompilesAlike}
 use Rattle.law_session.proofs.Imports.{imports_are_named}
 use Rattle.law_session.proofs.SymbolEntries.{entries_same, imports_found}
-use Rattle.law_session.proofs.Spoken.{spoken}
 
 -- ---- the same reason is printed
 
@@ -48,9 +47,9 @@ same_compile (Ok c) (Err q) h = h
 same_compile (Err r) (Ok d) h = h
 
 pub kept_compiles_alike : KeptCompilesAlike
-kept_compiles_alike written files l source library kept apart =
+kept_compiles_alike written files l source library kept told =
     same_compile (compiled prints (symbol_entry files) source) (compiled texts (interface_in l) source)
     (alike_among is_identifier (interface_in l) (symbol_entry files) source
     (record { first = λ text tree e r. imports_are_named text tree r; further = λ m f n e. imports_found written l library m f e })
     (entries_same written files l library kept)
-    (λ s t p q e. apart s t (spoken l library s p) (spoken l library t q) e))
+    (λ k t c p. told k t (c.0, c.1, c.2, c.3, c.4, c.5, c.6.0, c.6.1, (c.6.2, c.6.3, c.6.4, c.6.5)) p))

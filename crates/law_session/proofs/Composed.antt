@@ -1,7 +1,7 @@
 -- The headline of a session whose lines agree.
 use Rattle.std.proofs.Common.{◌≡◌, ℕ, ◌+◌, ◌≤◌, List, [], ◌∷◌, ◌++◌, Bool, true, false, length, take, refl, sym, ap, ◌∙◌, subst, append_assoc, arith, ⊎_elim, inl, inr}
 use Rattle.std.proofs.lemmas.Bool.{false≢true}
-use Rattle.std.specs.Prelude.{map, zero, suc, ◌⊎◌, Contains}
+use Rattle.std.specs.Prelude.{map, zero, suc, ◌⊎◌}
 use Rattle.ob_io.specs.Io.{SameFiles}
 use Rattle.ob_link.specs.Files.{Files}
 use Rattle.ob_shell_lines.specs.Lines.{done_lines, line_of}
@@ -14,9 +14,9 @@ use Rattle.ob_words.specs.declared.asked.Settings.{Settings}
 use Rattle.ob_shell_model.specs.Library.{Library, IsLibrary, Kept, Change, ObjectBecomes, SymbolBecomes, after_all}
 use Rattle.ob_shell_model.specs.Model.{World, start, answer, written, written_all}
 use Rattle.law_session.specs.Agreeing.{MakeSame}
-use Rattle.ob_shell_model.specs.Headline.{kind, Stands, IsIn, IsText, KeepsOn}
+use Rattle.ob_shell_model.specs.Headline.{kind, KeepsOn}
+use Rattle.ob_shell_model.specs.OneAge.{StandsAsCompared}
 use Rattle.ob_builds.specs.Simulated.{AreSettings, Simulation}
-use Rattle.ob_builds.specs.Builds.{Build}
 use Rattle.law_session.specs.Composing.{as_bytes, Alike, Composes, HeadlineFollows}
 use Rattle.law_session.specs.New.{NewIsValid}
 use Rattle.law_session.proofs.Keeping.{all_stay}
@@ -98,7 +98,7 @@ by_bool false = inr refl
 
 pub composes : Composes
 composes s l before now old new script status valid law afresh first small neither ends =
-    let e = ends_alike as_bytes (Alike s (IsText s old l script)) (session.bytes s old) (kind s old l) law (λ files ds. make_same ds files) before now old new script status first ends in
+    let e = ends_alike as_bytes (Alike s) (session.bytes s old) (kind s old l) law (λ files ds. make_same ds files) before now old new script status first ends in
     record {
       ends = e;
       keeps = ⊎_elim
@@ -106,13 +106,13 @@ composes s l before now old new script status valid law afresh first small neith
           (λ w. keeps_cut valid s before now old new l script status first.library first.kept w (e.cut (small w) (neither w)))
           (by_bool (is_whole status));
       afresh = λ past rest split.
-          let k = (related_behind as_bytes (Alike s (IsText s old l script)) (bytes.answer s) (answer s) law past rest (bytes.start s old) (start old l) (subst (Alike s (IsText s old l script) (bytes.start s old) (start old l) 1) split first)).together in
+          let k = (related_behind as_bytes (Alike s) (bytes.answer s) (answer s) law past rest (bytes.start s old) (start old l) (subst (Alike s (bytes.start s old) (start old l) 1) split first)).together in
           record { program = afresh _ k; together = k };
     }
 
 -- AT ENTRY
 
-pub starts_alike : (s : Settings) (l : Library) (old : Files) (script : List ℕ) → Simulation → AreSettings s → Stands s old l script → Alike s (IsText s old l script) (bytes.start s old) (start old l) 1 (done_lines script)
+pub starts_alike : (s : Settings) (l : Library) (old : Files) (script : List ℕ) → Simulation → AreSettings s → StandsAsCompared s old l script → Alike s (bytes.start s old) (start old l) 1 (done_lines script)
 starts_alike s l old script simulation limits h = record {
   files = refl;
   library = h.library;
@@ -120,12 +120,8 @@ starts_alike s l old script simulation limits h = record {
   loaded = refl;
   together = tt;
   stand = λ commands. simulation commands s limits;
-  texts = λ b i t x. ⊎_elim (λ (i : IsIn l b). (b, inl i, x)) (λ n. absurd (no_build b n)) i;
-  to_come = λ b i t x. (b, inr i, x);
+  told = h.told;
 }
-  where
-    no_build : (b : Build) → Contains [] b → ⊥
-    no_build b n = let h = n.1 in omega (arith, h)
 
 pub follows : HeadlineFollows
 follows s l before now old new script status valid simulation limits afresh law h small neither ends = composes s l before now old new script status valid law afresh (starts_alike s l old script simulation limits h) small neither ends

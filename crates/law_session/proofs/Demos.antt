@@ -1,7 +1,6 @@
 -- A demo by files and by builds.
-use Rattle.std.proofs.Common.{◌≡◌, ℕ, ◌+◌, ◌≤◌, List, [], ◌++◌, Bool, true, false, cond, length, refl, sym, ap, ◌∙◌, subst, arith, Some, None, Result, Ok, Err, ⊎_elim, inl}
-use Rattle.std.specs.Prelude.{zero, suc, codes, Contains, ◌⊎◌}
-use Rattle.std.proofs.lemmas.Bool.{false≢true}
+use Rattle.std.proofs.Common.{◌≡◌, ℕ, ◌+◌, ◌≤◌, List, [], ◌++◌, length, refl, sym, ap, ◌∙◌, subst, arith, Some, None, Result, Ok, Err, inl, inr}
+use Rattle.std.specs.Prelude.{zero, suc, codes}
 use Rattle.ob_tree.specs.declared.print.Print.{Print}
 use Rattle.ob_io.specs.Io.{put}
 use Rattle.ob_machine.specs.Machine.{made}
@@ -9,7 +8,7 @@ use Rattle.ob_meaning.specs.Commands.{nothing_loaded}
 use Rattle.ob_env.specs.Faces.{Face}
 use Rattle.ob_env_walk.specs.Walk.{symbol_entry}
 use Rattle.ob_demo.specs.Source.{source, module_name}
-use Rattle.ob_link.specs.Plan.{Entry, Missing, TooLong, Junk, Holds}
+use Rattle.ob_link.specs.Plan.{Missing, TooLong, Junk}
 use Rattle.ob_link.specs.Files.{Files}
 use Rattle.ob_compile_model.specs.Compiling as compile
 use Rattle.ob_compile_model.specs.Compiling.{Compiled, compiled, texts, prints}
@@ -17,21 +16,18 @@ use Rattle.ob_words.specs.declared.asked.Settings.{Settings}
 use Rattle.ob_shell_reports.specs.Texts.{demo_text}
 use Rattle.ob_shell_model.specs.Bytes as bytes
 use Rattle.ob_shell_model.specs.Bytes.{source_name, no_files}
-use Rattle.ob_builds.specs.Builds.{Text, Build}
-use Rattle.ob_shell_model.specs.Library.{Library, empty, with_entry, after_all}
-use Rattle.ob_shell_model.specs.Model.{World, Making, start, interface_in, becomes, new_build, with_changes, or_empty, made_of, made_one, with_source, and_more, demo_behind, demo_answer, compiled_in}
-use Rattle.ob_builds.specs.Apart.{IsTextOfBuild, Apart}
+use Rattle.ob_builds.specs.Builds.{Text}
+use Rattle.ob_shell_model.specs.Library.{empty, with_entry}
+use Rattle.ob_shell_model.specs.Model.{World, Making, start, interface_in, or_empty, made_of, made_one, with_source, and_more, demo_behind, demo_answer, compiled_in}
 use Rattle.ob_builds.specs.Written.{BuildsAreWritten}
 use Rattle.law_session.specs.New.{NewIsValid}
 use Rattle.ob_builds.specs.Simulated.{StandFor}
-use Rattle.ob_shell_model.specs.Headline.{IsIn}
+use Rattle.ob_shell_model.specs.OneAge.{ByCompile, ByDemo, AreToldApart}
 use Rattle.law_session.specs.Composing.{CompilesAlike, PlansAlike}
 use Rattle.law_session.proofs.Keeping.{source_stays}
-use Rattle.law_builds.proofs.Members.{has_none}
 use Rattle.law_session.proofs.Named.{module_named}
-use Rattle.law_session.proofs.Core.{Core, Made, CompilesSo, compiles_so}
+use Rattle.law_session.proofs.Core.{Core, CompilesSo, compiles_so}
 use Rattle.law_session.proofs.Commanded.{Alright, commands_so}
-use Rattle.law_lists.proofs.Lists.{bytes_same}
 
 -- THE EMPTY FOLDER
 
@@ -39,73 +35,57 @@ use Rattle.law_lists.proofs.Lists.{bytes_same}
 abbrev pub StandsFirst : Settings → Type 0
 StandsFirst s = (commands : ℕ) → StandFor commands s [] nothing_loaded (made s.heap).words (made s.heap).heap
 
-abbrev holds_some : Entry Build → Bool
-holds_some (Holds b) = true
-holds_some e = false
-
-nothing_in : (b : Build) → IsIn empty b → ⊥
-nothing_in b i = ⊎_elim (λ e. false≢true (ap holds_some e)) (λ e. false≢true (ap holds_some e)) i.1
-
-empty_core : (s : Settings) (P : Text → Type 0) → StandsFirst s → Core s P (bytes.start s no_files) (start no_files empty)
-empty_core s P first = record {
+empty_core : (s : Settings) → StandsFirst s → Core s (bytes.start s no_files) (start no_files empty)
+empty_core s first = record {
   files = refl;
   library = record { objects = λ n. tt; symbols = λ n. tt };
   kept = record { objects = λ n i. refl; symbols = λ n i. refl };
   loaded = refl;
   together = tt;
   stand = first;
-  texts = λ b i t x. ⊎_elim (λ (i : IsIn empty b). absurd (nothing_in b i)) (λ (n : Contains [] b). absurd (has_none b n)) i;
 }
 
 -- A STEP
 
-abbrev Stepped : Settings → (Text → Type 0) → ℕ → bytes.Making → Making → Type 0
-Stepped s P o (Some x) (Some y) = (o + x.0 ≡ y.0) × Core s P (bytes.start s x.1) y.1
-Stepped s P o None None = Unit {0}
-Stepped s P o (Some x) None = ⊥
-Stepped s P o None (Some y) = ⊥
+abbrev Stepped : Settings → ℕ → bytes.Making → Making → Type 0
+Stepped s o (Some x) (Some y) = (o + x.0 ≡ y.0) × Core s (bytes.start s x.1) y.1
+Stepped s o None None = Unit {0}
+Stepped s o (Some x) None = ⊥
+Stepped s o None (Some y) = ⊥
 
-source_core : (s : Settings) (P : Text → Type 0) (files : Files) (v : World) (n i : ℕ) → Core s P (bytes.start s files) v → Core s P (bytes.start s (put files (source_name i) (source n i))) (with_source v n i)
-source_core s P files v n i h = record {
+source_core : (s : Settings) (files : Files) (v : World) (n i : ℕ) → Core s (bytes.start s files) v → Core s (bytes.start s (put files (source_name i) (source n i))) (with_source v n i)
+source_core s files v n i h = record {
   files = ap (λ f. put f (source_name i) (source n i)) h.files;
   library = h.library;
   kept = source_stays v.files v.library i (source n i) h.kept;
   loaded = h.loaded;
   together = h.together;
   stand = h.stand;
-  texts = h.texts;
 }
 
-step_by : (s : Settings) (P : Text → Type 0) (o : ℕ) (files : Files) (v : World) (text : List ℕ) (r : Result (Compiled Print) (compile.Refusal Print)) (q : Result (Compiled Text) (compile.Refusal Text)) → CompilesSo s P (bytes.start s files) v text r q → Stepped s P o (bytes.made_of files r) (made_of o v text q)
-step_by s P o files v text (Ok c) (Ok d) k = (ap (λ (f : Face Print). o + length f.objects) k.shows, k.core)
-step_by s P o files v text (Err r) (Err q) k = tt
-step_by s P o files v text (Ok c) (Err q) k = k
-step_by s P o files v text (Err r) (Ok d) k = k
+step_by : (s : Settings) (o : ℕ) (files : Files) (v : World) (text : List ℕ) (r : Result (Compiled Print) (compile.Refusal Print)) (q : Result (Compiled Text) (compile.Refusal Text)) → CompilesSo s (bytes.start s files) v text r q → Stepped s o (bytes.made_of files r) (made_of o v text q)
+step_by s o files v text (Ok c) (Ok d) k = (ap (λ (f : Face Print). o + length f.objects) k.shows, k.core)
+step_by s o files v text (Err r) (Err q) k = tt
+step_by s o files v text (Ok c) (Err q) k = k
+step_by s o files v text (Err r) (Ok d) k = k
 
--- the build that a module becomes is in the library
-becomes_in : (l : Library) (text : List ℕ) (d : Compiled Text) → IsIn (after_all l (becomes text d)) (new_build text d)
-becomes_in l text d = (d.shows.«module», inl (ap (λ t. cond t (Holds (new_build text d)) (l.objects d.shows.«module»)) (bytes_same d.shows.«module» d.shows.«module» refl)))
-
-module _ (s : Settings) (P : Text → Type 0) (apart : Apart P) (compiles : CompilesAlike) (plans : PlansAlike) (written : BuildsAreWritten) (valid : NewIsValid) (first : StandsFirst s) where
-  step : (n i o : ℕ) (files : Files) (v : World) → Core s P (bytes.start s files) v →
-      ((x : ℕ × World) → made_one n i (o, v) ≡ Some x → (b : Build) → IsIn x.1.library b → (t : Text) → IsTextOfBuild b t → P t) →
-      Stepped s P o (bytes.made_one n i files) (made_one n i (o, v))
-  step n i o files v h new =
+module _ (s : Settings) (compiles : CompilesAlike) (plans : PlansAlike) (written : BuildsAreWritten) (valid : NewIsValid) (first : StandsFirst s) where
+  step : (n i o : ℕ) (files : Files) (v : World) → Core s (bytes.start s files) v → AreToldApart (ByCompile v.library ((with_source v n i).files (source_name i))) → Stepped s o (bytes.made_one n i files) (made_one n i (o, v))
+  step n i o files v h told =
       let there = put files (source_name i) (source n i) in
       let w = bytes.start s there in
       let z = with_source v n i in
-      let core : Core s P w z = source_core s P files v n i h in
+      let core : Core s w z = source_core s files v n i h in
       let file = z.files (source_name i) in
       let q = compiled texts (interface_in z.library) file in
-      step_by s P o there z (or_empty file) (compiled prints (symbol_entry there) (there (source_name i))) q
-      (subst (λ x. CompilesSo s P w z (or_empty file) (compiled prints (symbol_entry there) x) q) (sym (ap (λ (f : Files). f (source_name i)) core.files))
-      (compiles_so s P w z file apart compiles written valid core
-      (λ d e t x. new (o + length d.shows.objects, with_changes z (becomes (or_empty file) d)) (ap (made_of o z (or_empty file)) e) (new_build (or_empty file) d) (becomes_in z.library (or_empty file) d) t x)))
+      step_by s o there z (or_empty file) (compiled prints (symbol_entry there) (there (source_name i))) q
+      (subst (λ x. CompilesSo s w z (or_empty file) (compiled prints (symbol_entry there) x) q) (sym (ap (λ (f : Files). f (source_name i)) core.files))
+      (compiles_so s w z file compiles written valid core told))
 
   -- ALL MODULES
 
   abbrev SameMaking : bytes.Making → Making → Type 0
-  SameMaking x y = Stepped s P 0 x y
+  SameMaking x y = Stepped s 0 x y
 
   none_later : (n j k m : ℕ) → j + k ≡ m → demo_behind n j ≡ None → demo_behind n m ≡ None
   unfolding demo_behind
@@ -114,25 +94,22 @@ module _ (s : Settings) (P : Text → Type 0) (apart : Apart P) (compiles : Comp
       let x : suc (j + k) ≡ m = omega (arith, e) in
       subst (λ i. demo_behind n i ≡ None) x (ap (λ y. and_more y (made_one n (suc (j + k)))) (none_later n j k (j + k) refl h))
 
-  abbrev Demos : ℕ → Type 0
-  Demos n = (k : ℕ) (x : ℕ × World) (b : Build) → k ≤ n → demo_behind n k ≡ Some x → IsIn x.1.library b → (t : Text) → IsTextOfBuild b t → P t
-
-  next : (n j : ℕ) → suc j ≤ n → Demos n → (o : ℕ) (files : Files) (y : Making) → demo_behind n j ≡ y → SameMaking (Some (o, files)) y → Stepped s P o (bytes.made_one n (suc j) files) (demo_behind n (suc j))
+  next : (n j : ℕ) → suc j ≤ n → AreToldApart (ByDemo n) → (o : ℕ) (files : Files) (y : Making) → demo_behind n j ≡ y → SameMaking (Some (o, files)) y → Stepped s o (bytes.made_one n (suc j) files) (demo_behind n (suc j))
   unfolding demo_behind
-  next n j le demos o files None e h = absurd h
-  next n j le demos o files (Some y) e h =
+  next n j le told o files None e h = absurd h
+  next n j le told o files (Some y) e h =
       let is : o ≡ y.0 = let k = h.0 in omega (arith, k) in
       let so : demo_behind n (suc j) ≡ made_one n (suc j) (o, y.1) = ap (λ x. and_more x (made_one n (suc j))) e ∙ ap (λ a. made_one n (suc j) (a, y.1)) (sym is) in
-      subst (Stepped s P o (bytes.made_one n (suc j) files)) (sym so)
-      (step n (suc j) o files y.1 h.1 (λ x k b i t z. demos (suc j) x b le (so ∙ k) i t z))
+      subst (Stepped s o (bytes.made_one n (suc j) files)) (sym so)
+      (step n (suc j) o files y.1 h.1 (λ kept found c p. told kept found (j, y, e, inl (le, c)) p))
 
-  demo_so : (n more j m : ℕ) → j + more ≡ m → m ≤ n → Demos n → (o : ℕ) (files : Files) → SameMaking (Some (o, files)) (demo_behind n j) → SameMaking (bytes.demo_from n more (suc j) o files) (demo_behind n m)
-  demo_so n zero j m e le demos o files h = let x : j ≡ m = omega (arith, e) in subst (λ i. SameMaking (Some (o, files)) (demo_behind n i)) x h
-  demo_so n (suc more) j m e le demos o files h =
-      rest (bytes.made_one n (suc j) files) (demo_behind n (suc j)) refl (next n j (omega (arith, e, le)) demos o files (demo_behind n j) refl h)
-      (λ a z k. demo_so n more (suc j) m (omega (arith, e)) le demos a z k)
+  demo_so : (n more j m : ℕ) → j + more ≡ m → m ≤ n → AreToldApart (ByDemo n) → (o : ℕ) (files : Files) → SameMaking (Some (o, files)) (demo_behind n j) → SameMaking (bytes.demo_from n more (suc j) o files) (demo_behind n m)
+  demo_so n zero j m e le told o files h = let x : j ≡ m = omega (arith, e) in subst (λ i. SameMaking (Some (o, files)) (demo_behind n i)) x h
+  demo_so n (suc more) j m e le told o files h =
+      rest (bytes.made_one n (suc j) files) (demo_behind n (suc j)) refl (next n j (omega (arith, e, le)) told o files (demo_behind n j) refl h)
+      (λ a z k. demo_so n more (suc j) m (omega (arith, e)) le told a z k)
     where
-      rest : (x : bytes.Making) (z : Making) → demo_behind n (suc j) ≡ z → Stepped s P o x z →
+      rest : (x : bytes.Making) (z : Making) → demo_behind n (suc j) ≡ z → Stepped s o x z →
           ((a : ℕ) (f : Files) → SameMaking (Some (a, f)) (demo_behind n (suc j)) → SameMaking (bytes.demo_from n more (suc (suc j)) a f) (demo_behind n m)) →
           SameMaking (bytes.and_more x (λ y. bytes.demo_from n more (suc (suc j)) (o + y.0) y.1)) (demo_behind n m)
       rest (Some x) (Some z) k t go = let e = t.0 in go (o + x.0) x.1 (subst (SameMaking (Some (o + x.0, x.1))) (sym k) (omega (arith, e), t.1))
@@ -140,18 +117,18 @@ module _ (s : Settings) (P : Text → Type 0) (apart : Apart P) (compiles : Comp
       rest (Some x) None k t go = absurd t
       rest None (Some z) k t go = absurd t
 
-  demo_same : (n : ℕ) → Demos n → SameMaking (bytes.demo_made n) (demo_behind n n)
+  demo_same : (n : ℕ) → AreToldApart (ByDemo n) → SameMaking (bytes.demo_made n) (demo_behind n n)
   unfolding demo_behind bytes.demo_made
-  demo_same n demos = demo_so n n 0 n (omega arith) (omega arith) demos 0 no_files (refl, empty_core s P first)
+  demo_same n told = demo_so n n 0 n (omega arith) (omega arith) told 0 no_files (refl, empty_core s first)
 
   -- THE LINE
 
-  answered : (w : bytes.World) (v : World) (n : ℕ) → n ≤ 60 → Core s P w v → (x : bytes.Making) (y : Making) → SameMaking x y → Alright s P (bytes.demo_answer s w n x) (demo_answer s v n y)
-  answered w v n le h None None k = record { same = record { text = refl; opening = refl; refused = refl; changes = refl }; core = h }
-  answered w v n le h (Some x) None k = absurd k
-  answered w v n le h None (Some y) k = absurd k
-  answered w v n le h (Some x) (Some y) k =
-      let c = commands_so s P (bytes.start s x.1) y.1 (module_name n) (codes "Go") apart plans (module_named n le) refl k.1 in
+  answered : (w : bytes.World) (v : World) (n : ℕ) → n ≤ 60 → AreToldApart (ByDemo n) → Core s w v → (x : bytes.Making) (y : Making) → demo_behind n n ≡ y → SameMaking x y → Alright s (bytes.demo_answer s w n x) (demo_answer s v n y)
+  answered w v n le told h None None e k = record { same = record { text = refl; opening = refl; refused = refl; changes = refl }; core = h }
+  answered w v n le told h (Some x) None e k = absurd k
+  answered w v n le told h None (Some y) e k = absurd k
+  answered w v n le told h (Some x) (Some y) e k =
+      let c = commands_so s (bytes.start s x.1) y.1 (module_name n) (codes "Go") plans (module_named n le) refl k.1 (λ kept found c p. told kept found (n, y, e, inr (refl, c)) p) in
       let is : x.0 ≡ y.0 = let e = k.0 in omega (arith, e) in
       record {
         same = record {
@@ -163,5 +140,5 @@ module _ (s : Settings) (P : Text → Type 0) (apart : Apart P) (compiles : Comp
         core = h;
       }
 
-  pub demos_so : (w : bytes.World) (v : World) (n : ℕ) → n ≤ 60 → Core s P w v → Demos n → Alright s P (bytes.demo_answer s w n (bytes.demo_made n)) (demo_answer s v n (demo_behind n n))
-  demos_so w v n le h demos = answered w v n le h (bytes.demo_made n) (demo_behind n n) (demo_same n demos)
+  pub demos_so : (w : bytes.World) (v : World) (n : ℕ) → n ≤ 60 → Core s w v → AreToldApart (ByDemo n) → Alright s (bytes.demo_answer s w n (bytes.demo_made n)) (demo_answer s v n (demo_behind n n))
+  demos_so w v n le h told = answered w v n le told h (bytes.demo_made n) (demo_behind n n) refl (demo_same n told)

@@ -1,6 +1,6 @@
 -- What a load is told of valid builds.
-use Rattle.std.proofs.Common.{◌≡◌, ℕ, ◌≤◌, List, [], ◌∷◌, map, length, Bool, true, false, cond, not, refl, sym, ap, ◌∙◌, subst, Option, Some, None, inl}
-use Rattle.std.specs.Prelude.{nat_le, bytes_eq, Contains, ◌⊎◌}
+use Rattle.std.proofs.Common.{◌≡◌, ℕ, ◌≤◌, List, [], ◌∷◌, map, length, Bool, true, false, cond, not, refl, sym, ap, ◌∙◌, subst, Option, Some, None}
+use Rattle.std.specs.Prelude.{nat_le, bytes_eq, Contains}
 use Rattle.std.specs.List.{AllByRecursion}
 use Rattle.std.proofs.lemmas.Bool.{false≢true, leb-true}
 use Rattle.ob_tree.specs.declared.which.Which.{Which}
@@ -16,7 +16,7 @@ use Rattle.ob_link.specs.Walk.{first_of as first_refusal}
 use Rattle.ob_link.specs.Plan.{Asks, most_globals, named, kept_by, present, use_against, use_fails}
 use Rattle.ob_link.specs.Files as files
 use Rattle.ob_compile_model.specs.Compiling.{Compiled, texts, or_first, limit_of_operands, exceeds, exports_of, interface_by}
-use Rattle.law_load_plan.specs.Alike.{FindsAlike, AreAskedAlike}
+use Rattle.law_load_plan.specs.Alike.{FindsAlike, UsesFindAlike, AreAskedAlike}
 use Rattle.ob_types.specs.Maps.{is_type}
 use Rattle.law_load_plan.specs.Compiled.{IsKnown, AreLinksUsed, AreProceduresNamed, asks_by}
 use Rattle.law_load_plan.specs.Laws.{IsMarked}
@@ -25,15 +25,13 @@ use Rattle.law_load_plan.proofs.Fitting.{names_spelled}
 use Rattle.law_load_plan.proofs.Instance.{compiled_alike}
 use Rattle.law_load_plan.proofs.Links.{links_named}
 use Rattle.ob_builds.specs.Builds.{Text, Build, IsValid, of, shows_of, name_of, file_of, asks}
-use Rattle.ob_shell_model.specs.Library.{Library}
-use Rattle.ob_builds.specs.Apart.{Apart}
-use Rattle.ob_builds.specs.Local.{AreAsWanted}
 use Rattle.ob_builds.specs.Written.{BuildsAreWritten}
-use Rattle.ob_shell_model.specs.Headline.{IsIn}
-use Rattle.law_session.specs.Composing.{IsTextIn}
+use Rattle.ob_shell_model.specs.OneAge.{OfBuilds, AreToldApart}
 use Rattle.law_builds.proofs.Compiled.{Comes, comes}
 use Rattle.law_builds.proofs.Faces.{of_is}
-use Rattle.law_builds.proofs.Kept.{uses_kept, kept_text}
+use Rattle.law_builds.proofs.Members.{has_head, has_more}
+use Rattle.law_lists.proofs.Lists.{same_bytes}
+use Rattle.law_session.proofs.Checked.{agree_same}
 use Rattle.law_builds.specs.Linked.{BuildsAreLinked}
 use Rattle.law_builds.proofs.Apart.{build_apart}
 use Rattle.law_names_procedures.specs.Named.{AreNamedApart}
@@ -62,14 +60,23 @@ has_room c e =
     let all = none_exceeded (limits (viewed (described c.against) c.tree) c.tree (length c.shows.objects)) a in
     not_above most_globals (globals_words (viewed (described c.against) c.tree) c.tree) all.1.1.1.0
 
+-- all of a list
+pub all_there : {A : Type 0} (P : A → Type 0) (xs : List A) → ((x : A) → Contains xs x → P x) → AllByRecursion P xs
+all_there P [] h = tt
+all_there P (x ∷ xs) h = (h x (has_head x xs), all_there P xs (λ y c. h y (has_more x xs y c)))
+
 -- A BUILD
 
-all_texts : (l : Library) (loaded : List Build) (b : Build) (c : Compiled Text) → IsValid b c → IsIn l b ⊎ Contains loaded b → (us : List (Wanted Text)) → AreAsWanted c.against us → AllByRecursion (λ u. IsTextIn l loaded u.kept) us
-all_texts l loaded b c v i [] h = tt
-all_texts l loaded b c v i (u ∷ us) h = ((b, i, kept_text b c v u h.0), all_texts l loaded b c v i us h.1)
+-- nothing is asked of texts
+abbrev AnyText : Text → Type 0
+AnyText t = Unit {0}
 
-known : BuildsAreWritten → (l : Library) (loaded : List Build) (b : Build) (c : Compiled Text) → IsValid b c → IsIn l b ⊎ Contains loaded b → IsKnown (IsTextIn l loaded) (of b)
-known written l loaded b c v i =
+any_kept : (us : List (Wanted Text)) → AllByRecursion (λ u. AnyText u.kept) us
+any_kept [] = tt
+any_kept (u ∷ us) = (tt, any_kept us)
+
+known : BuildsAreWritten → (b : Build) (c : Compiled Text) → IsValid b c → IsKnown AnyText (of b)
+known written b c v =
     let o : of b ≡ c = of_is b c v in
     let h : Comes texts c = comes texts _ (Some b.source) c v.is in
     let s : AreNamedApart c = build_apart b c v in
@@ -80,24 +87,25 @@ known written l loaded b c v i =
       room = subst (λ (x : Compiled Text). globals_words (viewed (described x.against) x.tree) x.tree ≤ most_globals) (sym o) (has_room c h.limits);
       procedures = subst (λ (x : Compiled Text). AreProceduresNamed x.tree.procedures) (sym o) (record { names = s.procedures; identifiers = spelled; marks = m.marks });
       types = subst (λ (x : Compiled Text). AllByRecursion (λ t. is_type t.desc ≡ true) x.tree.types) (sym o) m.types;
-      has = λ name aspect t e. (b, i, inl (record { «module» = name_of b; object = name }, aspect, e));
-      uses = subst (λ (x : Compiled Text). AllByRecursion (λ u. IsTextIn l loaded u.kept) x.shows.uses) (sym o) (all_texts l loaded b c v i c.shows.uses (uses_kept b c v));
+      has = λ name aspect t e. tt;
+      uses = any_kept (shows_of b).uses;
     }
 
 -- a build that a load may meet
-pub record IsFit (l : Library) (loaded : List Build) (b : Build) : Type 0 where
-  pub known : IsKnown (IsTextIn l loaded) (of b)
+pub record IsFit (IsMet : Build → Type 0) (b : Build) : Type 0 where
+  pub known : IsKnown AnyText (of b)
   pub valid : (c : Compiled Text) × IsValid b c
+  pub met : IsMet b
 
-pub fit : BuildsAreWritten → (l : Library) (loaded : List Build) (b : Build) (c : Compiled Text) → IsValid b c → IsIn l b ⊎ Contains loaded b → IsFit l loaded b
-fit written l loaded b c v i = record { known = known written l loaded b c v i; valid = (c, v) }
+pub fit : BuildsAreWritten → (IsMet : Build → Type 0) (b : Build) (c : Compiled Text) → IsValid b c → IsMet b → IsFit IsMet b
+fit written IsMet b c v i = record { known = known written b c v; valid = (c, v); met = i }
 
 -- ---- the builds that a load may meet, and no others
 
-module _ (l : Library) (loaded : List Build) where
+module _ (IsMet : Build → Type 0) where
   record Fit : Type 0 where
     build : Build
-    is : IsFit l loaded build
+    is : IsFit IsMet build
 
   abbrev kept_of : Fit → Compiled Text
   kept_of y = of y.build
@@ -106,26 +114,26 @@ module _ (l : Library) (loaded : List Build) where
   fit_asks = asks_by kept_of
 
   abbrev One : Fit → Type 0
-  One y = IsKnown (IsTextIn l loaded) (kept_of y)
+  One y = IsKnown AnyText (kept_of y)
 
-  abbrev fit_of : (b : Build) → IsFit l loaded b → Fit
+  abbrev fit_of : (b : Build) → IsFit IsMet b → Fit
   fit_of b k = record { build = b; is = k }
 
-  lifted : (bs : List Build) → AllByRecursion (IsFit l loaded) bs → List Fit
+  lifted : (bs : List Build) → AllByRecursion (IsFit IsMet) bs → List Fit
   lifted [] h = []
   lifted (b ∷ bs) h = fit_of b h.0 ∷ lifted bs h.1
 
-  lifted_files : (bs : List Build) (h : AllByRecursion (IsFit l loaded) bs) → map (λ y. file_of y.build) (lifted bs h) ≡ map file_of bs
+  lifted_files : (bs : List Build) (h : AllByRecursion (IsFit IsMet) bs) → map (λ y. file_of y.build) (lifted bs h) ≡ map file_of bs
   unfolding lifted
   lifted_files [] h = refl
   lifted_files (b ∷ bs) h = ap (λ r. file_of b ∷ r) (lifted_files bs h.1)
 
-  lifted_known : (bs : List Build) (h : AllByRecursion (IsFit l loaded) bs) → AllByRecursion One (lifted bs h)
+  lifted_known : (bs : List Build) (h : AllByRecursion (IsFit IsMet) bs) → AllByRecursion One (lifted bs h)
   unfolding lifted
   lifted_known [] h = tt
   lifted_known (b ∷ bs) h = (h.0.known, lifted_known bs h.1)
 
-  lifted_present : (bs : List Build) (h : AllByRecursion (IsFit l loaded) bs) (q : QName) (a : Aspect) → present fit_asks (lifted bs h) q a ≡ present asks bs q a
+  lifted_present : (bs : List Build) (h : AllByRecursion (IsFit IsMet) bs) (q : QName) (a : Aspect) → present fit_asks (lifted bs h) q a ≡ present asks bs q a
   unfolding lifted
   lifted_present [] h q a = refl
   lifted_present (b ∷ bs) h q a = go (bytes_eq q.«module» (name_of b)) (lifted_present bs h.1 q a)
@@ -134,33 +142,37 @@ module _ (l : Library) (loaded : List Build) where
       go true e = refl
       go false e = e
 
-  lifted_uses : (bs : List Build) (h : AllByRecursion (IsFit l loaded) bs) (client : List ℕ) (us : List (Wanted Text)) → first_refusal (use_fails fit_asks (lifted bs h) client) us ≡ first_refusal (use_fails asks bs client) us
+  lifted_uses : (bs : List Build) (h : AllByRecursion (IsFit IsMet) bs) (client : List ℕ) (us : List (Wanted Text)) → first_refusal (use_fails fit_asks (lifted bs h) client) us ≡ first_refusal (use_fails asks bs client) us
   lifted_uses bs h client [] = refl
   lifted_uses bs h client (u ∷ us) =
       ap (λ o. walk.or_first (use_against bytes_eq client u o) (first_refusal (use_fails fit_asks (lifted bs h) client) us)) (lifted_present bs h u.object u.aspect)
       ∙ ap (walk.or_first (use_fails asks bs client u)) (lifted_uses bs h client us)
-
-  finds : (us : List (Wanted Text)) → AllByRecursion (λ u. (y : Fit) → One y → FindsAlike fit_asks files.asks print_from y u) us → AllByRecursion (λ u. (y : Build) → IsFit l loaded y → FindsAlike asks files.asks print_from y u) us
-  finds [] h = tt
-  finds (u ∷ us) h = (λ y k. h.0 (fit_of y k) k.known, finds us h.1)
 
   links_used : BuildsAreLinked → (y : Fit) → AreLinksUsed (kept_of y)
   links_used linked y =
       let v = y.is.valid in
       subst AreLinksUsed (sym (of_is y.build v.0 v.1)) (linked y.build v.0 v.1)
 
-  pub asked_alike : BuildsAreLinked → Apart (IsTextIn l loaded) → AreAskedAlike asks files.asks file_of print_from (IsFit l loaded)
-  asked_alike linked apart =
-      let a : AreAskedAlike fit_asks files.asks (λ y. file_of y.build) print_from One = compiled_alike (IsTextIn l loaded) apart kept_of (links_named (IsTextIn l loaded) kept_of (λ y k. links_used linked y)) in
+  pub asked_alike : BuildsAreLinked → AreAskedAlike asks files.asks file_of print_from (IsFit IsMet)
+  asked_alike linked =
+      let a : AreAskedAlike fit_asks files.asks (λ y. file_of y.build) print_from One = compiled_alike AnyText kept_of (links_named AnyText kept_of (λ y k. links_used linked y)) in
       record {
         name = λ x k. a.name (fit_of x k) k.known;
         imports = λ x k. a.imports (fit_of x k) k.known;
         uses = λ x k. a.uses (fit_of x k) k.known;
         keeps = λ x k. a.keeps (fit_of x k) k.known;
-        same = λ x k. finds (shows_of x).uses (a.same (fit_of x k) k.known);
         links = λ xs ks x k met.
             ap (λ fs. files.unlinked fs (file_of x)) (sym (lifted_files xs ks))
             ∙ a.links (lifted xs ks) (lifted_known xs ks) (fit_of x k) k.known (lifted_uses xs ks (name_of x) (shows_of x).uses ∙ met);
         words = λ x k. a.words (fit_of x k) k.known;
         has_command = λ x k. a.has_command (fit_of x k) k.known;
       }
+
+  -- A build's uses are told alike of all builds that prints tell apart from them.
+  found_alike : (x y : Build) → AreToldApart (OfBuilds x y) → (u : Wanted Text) → Contains (shows_of x).uses u → FindsAlike asks files.asks print_from y u
+  found_alike x y told u c found n e =
+      let q : u.object.«module» ≡ name_of y = same_bytes u.object.«module» (name_of y) n in
+      agree_same u.kept found (told u.kept found (u, c, refl, subst (λ m. text_in (shows_of y ∷ []) (record { «module» = m; object = u.object.object }) u.aspect ≡ Some found) (sym q) e))
+
+  pub uses_alike : (x : Build) → ((y : Build) → IsMet y → AreToldApart (OfBuilds x y)) → UsesFindAlike asks files.asks print_from (IsFit IsMet) x
+  uses_alike x told = all_there (λ u. (y : Build) → IsFit IsMet y → FindsAlike asks files.asks print_from y u) (shows_of x).uses (λ u c y k. found_alike x y (told y k.met) u c)

@@ -17,6 +17,8 @@ pub mod Core
 pub mod Known
 pub mod Spoken
 pub mod Commanded
+pub mod Told
+pub mod OneAge
 pub mod Agreed
 pub mod CompileLaw
 pub mod Demos

@@ -19,7 +19,7 @@ use Rattle.law_builds.proofs.Compiled.{some_source}
 use Rattle.law_builds.proofs.Faces.{of_is}
 
 -- a change to a valid build of the module of its name
-abbrev IsGood : Change → Type 0
+abbrev pub IsGood : Change → Type 0
 IsGood (ObjectBecomes name b) = IsEntry name (Holds b)
 IsGood (SymbolBecomes name b) = IsEntry name (Holds b)
 
@@ -49,20 +49,20 @@ behind_good (c ∷ cs) ds g h = (g.0, behind_good cs ds g.1 h)
 
 -- ---- the changes of a line
 
-becomes_good : (text : List ℕ) (c : Compiled Text) → IsValid (new_build text c) c → AllByRecursion IsGood (becomes text c)
+pub becomes_good : (text : List ℕ) (c : Compiled Text) → IsValid (new_build text c) c → AllByRecursion IsGood (becomes text c)
 becomes_good text c v =
     let named : name_of (new_build text c) ≡ c.shows.«module» = ap (λ (x : Compiled Text). x.shows.«module») (of_is (new_build text c) c v) in
     ((c, v, named), ((c, v, named), tt))
 
 -- the changes are good, and the library of the world behind the line is the one after them
-abbrev IsGoodLine : World → List Change → World → Type 0
+abbrev pub IsGoodLine : World → List Change → World → Type 0
 IsGoodLine w cs v = AllByRecursion IsGood cs × (v.library ≡ after_all w.library cs)
 
 compile_good : (w : World) (name text : List ℕ) (r : Result (Compiled Text) (compile.Refusal Text)) → ((c : Compiled Text) → r ≡ Ok c → IsValid (new_build text c) c) → IsGoodLine w (compile_answer w name text r).changes (compile_answer w name text r).world
 compile_good w name text (Err r) h = (tt, refl)
 compile_good w name text (Ok c) h = (becomes_good text c (h c refl), refl)
 
-new_valid : NewIsValid → (l : Library) → IsLibrary l → (file : Option (List ℕ)) (c : Compiled Text) → compiled texts (interface_in l) file ≡ Ok c → IsValid (new_build (or_empty file) c) c
+pub new_valid : NewIsValid → (l : Library) → IsLibrary l → (file : Option (List ℕ)) (c : Compiled Text) → compiled texts (interface_in l) file ≡ Ok c → IsValid (new_build (or_empty file) c) c
 new_valid valid l h file c e =
     let x = some_source texts (interface_in l) file c e in
     let is : file ≡ Some (or_empty file) = x.1 ∙ ap (λ (o : Option (List ℕ)). Some (or_empty o)) (sym x.1) in
@@ -76,7 +76,7 @@ demo_good : (s : Settings) (w : World) (n : ℕ) (m : Making) → IsGoodLine w (
 demo_good s w n None = (tt, refl)
 demo_good s w n (Some x) = (tt, refl)
 
-line_good : NewIsValid → (s : Settings) (w : World) (n : ℕ) (l : Line) → IsLibrary w.library → IsGoodLine w (answer s w n l).changes (answer s w n l).world
+pub line_good : NewIsValid → (s : Settings) (w : World) (n : ℕ) (l : Line) → IsLibrary w.library → IsGoodLine w (answer s w n l).changes (answer s w n l).world
 line_good valid s w n (line.Compile name) h = compile_good w name (or_empty (w.files name)) (compiled_in w (w.files name)) (λ c e. new_valid valid w.library h (w.files name) c e)
 line_good valid s w n (line.Compare old new) h = (tt, refl)
 line_good valid s w n (line.Check m) h = (tt, refl)

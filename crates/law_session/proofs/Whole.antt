@@ -4,7 +4,6 @@ use Rattle.std.specs.Prelude.{◌||◌, nat_lt, nat_eq}
 use Rattle.ob_shell_model.specs.Session.{is_whole}
 use Rattle.ob_shell_model.specs.Bytes as bytes
 use Rattle.ob_shell_model.specs.Model.{start, answer}
-use Rattle.ob_shell_model.specs.Headline.{IsText}
 use Rattle.law_session.specs.Composing.{as_bytes, Alike, HeadlineHolds, FrontsAgree}
 use Rattle.law_session.proofs.Transfer.{text_behind}
 use Rattle.law_session.proofs.New.{new_is_valid}
@@ -21,9 +20,9 @@ seven n h e = grind (arith, h, e)
 
 pub holds : HeadlineHolds
 holds s l before now old new script status locality simulation written compiles plans limits h two most ends =
-    follows s l before now old new script status (new_is_valid written) simulation limits (afresh_so written locality) (agreed s l old script compiles plans written simulation limits h.apart) h (apart_from status two) (seven status most) ends
+    follows s l before now old new script status (new_is_valid written) simulation limits (afresh_so written locality) (agreed s compiles plans written simulation limits) h (apart_from status two) (seven status most) ends
 
 pub fronts_so : FrontsAgree
 fronts_so s l old script simulation written compiles plans limits h past rest split =
-    text_behind as_bytes (Alike s (IsText s old l script)) (bytes.answer s) (answer s) (agreed s l old script compiles plans written simulation limits h.apart) past rest (bytes.start s old) (start old l)
-    (subst (Alike s (IsText s old l script) (bytes.start s old) (start old l) 1) split (starts_alike s l old script simulation limits h))
+    text_behind as_bytes (Alike s) (bytes.answer s) (answer s) (agreed s compiles plans written simulation limits) past rest (bytes.start s old) (start old l)
+    (subst (Alike s (bytes.start s old) (start old l) 1) split (starts_alike s l old script simulation limits h))

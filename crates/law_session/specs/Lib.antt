@@ -6,3 +6,4 @@ pub mod Loads
 pub mod Holds
 pub mod Named
 pub mod Chain
+pub mod OneAge

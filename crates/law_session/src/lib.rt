@@ -7,6 +7,7 @@ ghost use Rattle.law_session.specs.Named.{ImportsAreNamed};
 ghost use Rattle.law_session.specs.Kept.{KeptCompilesAlike};
 ghost use Rattle.law_session.specs.Loads.{LoadsAlike};
 ghost use Rattle.law_session.specs.Holds.{HeadlineHolds as FromPromises, LinesHold};
+ghost use Rattle.law_session.specs.OneAge.{ApartAreTold, HeadlineHoldsAsCompared, HeadlineHoldsInOneAge, OneAgeStays, WorldsGiveOneAge};
 
 /// A law, with nothing to run: the empty folder keeps the empty library.
 pub fn empty_is_kept()
@@ -20,7 +21,7 @@ pub fn kept_stays()
 {}
 
 /// A law, with nothing to run: a check over kept files is the check over the library, where builds
-/// are written as they are read and the texts of the library are apart.
+/// are written as they are read and prints tell apart what it compares.
 pub fn checks_alike()
     ensures { ChecksFollow }
 {}
@@ -52,8 +53,8 @@ pub fn headline_follows()
 {}
 
 /// A law, with nothing to run: the headline of each session with accepted words, over files that a
-/// library keeps and texts that are apart, from the laws of compiles, plans, written builds,
-/// locality and simulation alone.
+/// library keeps and prints that tell apart what it compares, from the laws of compiles, plans,
+/// written builds, locality and simulation alone.
 pub fn headline_holds()
     ensures { HeadlineHolds }
 {}
@@ -70,19 +71,18 @@ pub fn imports_are_named()
     ensures { ImportsAreNamed }
 {}
 
-/// A law, with nothing to run: where files keep a library, all builds can be written, and no two of
-/// the texts of its builds have one print unless they are the same, a source compiles over the files
-/// as it does over the library: the same reason of a refusal is printed, or it is a module that shows
-/// the same, and the bytes of its two files are the same.
+/// A law, with nothing to run: where files keep a library, all builds can be written, and prints
+/// tell apart what the compile compares, a source compiles over the files as it does over the
+/// library: the same reason of a refusal is printed, or it is a module that shows the same, and the
+/// bytes of its two files are the same.
 pub fn kept_compiles_alike()
     ensures { KeptCompilesAlike }
 {}
 
 /// A law, with nothing to run: where files keep a library, all builds can be written, the links of
-/// each module that compiles name what it uses, and no two of the texts of the library and of the
-/// loaded builds have one print unless they are the same, a load over the files is the load over the
-/// library: the same reason of a refusal is printed, or the files that
-/// it brings in are those of the builds, which go together with the loaded ones.
+/// each module that compiles name what it uses, and prints tell apart what the load compares, a load
+/// over the files is the load over the library: the same reason of a refusal is printed, or the files
+/// that it brings in are those of the builds, which go together with the loaded ones.
 pub fn loads_alike()
     ensures { LoadsAlike }
 {}
@@ -108,4 +108,22 @@ pub fn headline()
 /// of are apart.
 pub fn sessions_chain()
     ensures { SessionsChain }
+{}
+
+/// A law, with nothing to run. A session compares the text that a use keeps with the text that its
+/// object has by now, and by the bytes of files it compares their prints. The clauses say:
+/// - where no two texts of the builds spoken of share a print, prints tell apart all that is compared;
+/// - the headline of a session asks for no more than that;
+/// - where all that is compared is of one age, each use keeping the very text that its object has by
+///   now, the headline holds with nothing asked of prints;
+/// - so it is where each world on the way is of one age, its library and the loaded builds together;
+/// - so it is with every script that compiles nothing, where the library is of one age.
+///
+/// The laws of builds (`Promises` of `ob_builds`) are premises here.
+pub fn one_age()
+    ensures told { ApartAreTold }
+    ensures compared { HeadlineHoldsAsCompared }
+    ensures whole { HeadlineHoldsInOneAge }
+    ensures worlds { WorldsGiveOneAge }
+    ensures stays { OneAgeStays }
 {}
