@@ -7,6 +7,7 @@ ghost use Rattle.ob_words.specs.Settings.{settings_of};
 ghost use Rattle.ob_shell_model.specs.Session.{bytes, Ends};
 ghost use Rattle.ob_shell_model.specs.Library.{Library};
 ghost use Rattle.ob_shell_model.specs.Headline.{Headline, Stands};
+ghost use Rattle.ob_shell_model.specs.OneAge.{StandsInOneAge};
 ghost use Rattle.ob_shell_model.specs.Pieces.{WritesPieces};
 ghost use Rattle.ob_shell_session.specs.Stand.{Pieces};
 ghost use Rattle.ob_shell_session.specs.Session.{Causes};
@@ -58,6 +59,9 @@ pub fn session<F: Folder, I: Source, O: Sink>(
     ensures headline { (s : TheSettings) → settings_of (map (λ w. w.bytes.items) words.now) ≡ Some s → I.tells script.old ≡ true → F.tells folder.old ≡ true → O.tells out.old ≡ true → (l : Library) → Stands s (F.files folder.old) l (I.left script.old) → Headline s (O.taken out.old) (O.taken out.new) (F.files folder.old) (F.files folder.new) l (I.left script.old) result }
     // So are the lines done with status 3.
     ensures headline_pieces { (s : TheSettings) → settings_of (map (λ w. w.bytes.items) words.now) ≡ Some s → I.tells script.old ≡ true → F.tells folder.old ≡ true → O.tells out.old ≡ true → (l : Library) → Stands s (F.files folder.old) l (I.left script.old) → result ≡ 3 → WritesPieces s (O.taken out.old) (O.taken out.new) (F.files folder.old) l (I.left script.old) (I.left script.new) }
+    // So it is, with nothing asked of prints, where all that the session compares is of one age: each
+    // use keeps the very text that its object has by now.
+    ensures one_age { (s : TheSettings) → settings_of (map (λ w. w.bytes.items) words.now) ≡ Some s → I.tells script.old ≡ true → F.tells folder.old ≡ true → O.tells out.old ≡ true → (l : Library) → StandsInOneAge s (F.files folder.old) l (I.left script.old) → Headline s (O.taken out.old) (O.taken out.new) (F.files folder.old) (F.files folder.new) l (I.left script.old) result }
 {
     let mut compiler = Compiler::new(alloc);
     do_all(alloc, words, folder, &mut compiler, script, out)
