@@ -1,6 +1,6 @@
 -- Each line agrees.
-use Rattle.std.proofs.Common.{◌≡◌, ℕ, ◌+◌, ◌≤◌, List, [], ◌∷◌, ◌++◌, Bool, true, false, refl, sym, ap, ◌∙◌, subst, Option, Some, None, Result, Ok, Err, ⊎_elim, inl, inr}
-use Rattle.std.specs.Prelude.{map, Contains, ◌⊎◌}
+use Rattle.std.proofs.Common.{◌≡◌, ℕ, ◌+◌, List, [], ◌∷◌, ◌++◌, Bool, true, false, refl, sym, ap, ◌∙◌, subst, Option, None, Result, Ok, Err, ⊎_elim}
+use Rattle.std.specs.Prelude.{map, ◌⊎◌}
 use Rattle.ob_tree.specs.declared.print.Print.{Print}
 use Rattle.ob_env_walk.specs.Walk.{symbol_name, symbol_entry}
 use Rattle.ob_cmp.specs.Check.{Checked, check_of, check_text, is_refused}
@@ -15,9 +15,9 @@ use Rattle.ob_shell_model.specs.Folds.{Answer, world_from}
 use Rattle.ob_shell_model.specs.Files.{sym_file}
 use Rattle.ob_shell_model.specs.Bytes as bytes
 use Rattle.ob_shell_model.specs.Bytes.{compared, shown}
-use Rattle.ob_builds.specs.Builds.{Text, Build}
-use Rattle.ob_shell_model.specs.Library.{Library, Change, ObjectBecomes, SymbolBecomes}
-use Rattle.ob_shell_model.specs.Model.{World, answer, interface_in, becomes, new_build, or_empty, compile_answer, demo_behind, check_in}
+use Rattle.ob_builds.specs.Builds.{Text}
+use Rattle.ob_shell_model.specs.Library.{Library, Change}
+use Rattle.ob_shell_model.specs.Model.{World, answer, interface_in, becomes, or_empty, compile_answer, check_in}
 use Rattle.law_session.specs.Agreeing.{AreSame}
 use Rattle.ob_builds.specs.Written.{BuildsAreWritten}
 use Rattle.law_session.specs.New.{NewIsValid}

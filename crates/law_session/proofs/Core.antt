@@ -1,6 +1,6 @@
 -- Worlds that are alike, whatever lines are to come.
-use Rattle.std.proofs.Common.{◌≡◌, ℕ, ◌+◌, List, [], ◌∷◌, ◌++◌, Bool, true, false, cond, length, take, refl, sym, ap, ◌∙◌, subst, append_assoc, Option, Some, None, Result, Ok, Err, ⊎_elim, inl, inr}
-use Rattle.std.specs.Prelude.{zero, suc, map, bytes_eq, Contains, ◌⊎◌}
+use Rattle.std.proofs.Common.{◌≡◌, ℕ, ◌+◌, List, [], ◌∷◌, ◌++◌, Bool, true, false, cond, length, take, refl, sym, ap, ◌∙◌, subst, append_assoc, Option, Some, None, Result, Ok, Err}
+use Rattle.std.specs.Prelude.{zero, suc, map, bytes_eq}
 use Rattle.std.proofs.lemmas.Slice.Eq.{bytes_eq-Decides}
 use Rattle.ob_tree.specs.declared.print.Print.{Print}
 use Rattle.ob_io.specs.Io.{put}
@@ -16,7 +16,7 @@ use Rattle.ob_shell_reports.specs.Texts.{compile_reason}
 use Rattle.ob_shell_model.specs.Bytes as bytes
 use Rattle.ob_shell_model.specs.Bytes.{files_of}
 use Rattle.ob_builds.specs.Builds.{Text, Build, IsValid, of, name_of, file_of, bytes_of, symbols_of}
-use Rattle.ob_shell_model.specs.Library.{Library, IsLibrary, IsEntry, Kept, Change, ObjectBecomes, with_entry, after_all}
+use Rattle.ob_shell_model.specs.Library.{IsLibrary, IsEntry, Kept, Change, ObjectBecomes, with_entry}
 use Rattle.ob_shell_model.specs.Model.{World, interface_in, becomes, new_build, counted, with_changes, written_all, or_empty}
 use Rattle.ob_builds.specs.Afresh.{AreTogether}
 use Rattle.ob_builds.specs.Simulated.{StandFor}
@@ -25,7 +25,6 @@ use Rattle.law_session.specs.New.{NewIsValid}
 use Rattle.ob_shell_model.specs.OneAge.{ByCompile, AreToldApart}
 use Rattle.law_session.specs.Composing.{as_bytes, SameCompile, CompilesAlike}
 use Rattle.law_session.proofs.Keeping.{all_stay}
-use Rattle.law_builds.proofs.Members.{has_none}
 use Rattle.law_builds.proofs.Compiled.{some_source}
 use Rattle.law_builds.proofs.Faces.{of_is}
 use Rattle.law_session.proofs.Stood.{counted_same}

@@ -1,7 +1,6 @@
 -- A demo by files and by builds.
-use Rattle.std.proofs.Common.{◌≡◌, ℕ, ◌+◌, ◌≤◌, List, [], ◌++◌, Bool, true, false, cond, length, refl, sym, ap, ◌∙◌, subst, arith, Some, None, Result, Ok, Err, inl, inr}
+use Rattle.std.proofs.Common.{◌≡◌, ℕ, ◌+◌, ◌≤◌, List, [], ◌++◌, length, refl, sym, ap, ◌∙◌, subst, arith, Some, None, Result, Ok, Err, inl, inr}
 use Rattle.std.specs.Prelude.{zero, suc, codes}
-use Rattle.std.proofs.lemmas.Bool.{false≢true}
 use Rattle.ob_tree.specs.declared.print.Print.{Print}
 use Rattle.ob_io.specs.Io.{put}
 use Rattle.ob_machine.specs.Machine.{made}
@@ -9,7 +8,7 @@ use Rattle.ob_meaning.specs.Commands.{nothing_loaded}
 use Rattle.ob_env.specs.Faces.{Face}
 use Rattle.ob_env_walk.specs.Walk.{symbol_entry}
 use Rattle.ob_demo.specs.Source.{source, module_name}
-use Rattle.ob_link.specs.Plan.{Entry, Missing, TooLong, Junk, Holds}
+use Rattle.ob_link.specs.Plan.{Missing, TooLong, Junk}
 use Rattle.ob_link.specs.Files.{Files}
 use Rattle.ob_compile_model.specs.Compiling as compile
 use Rattle.ob_compile_model.specs.Compiling.{Compiled, compiled, texts, prints}
@@ -17,9 +16,9 @@ use Rattle.ob_words.specs.declared.asked.Settings.{Settings}
 use Rattle.ob_shell_reports.specs.Texts.{demo_text}
 use Rattle.ob_shell_model.specs.Bytes as bytes
 use Rattle.ob_shell_model.specs.Bytes.{source_name, no_files}
-use Rattle.ob_builds.specs.Builds.{Text, Build}
-use Rattle.ob_shell_model.specs.Library.{Library, empty, with_entry, after_all}
-use Rattle.ob_shell_model.specs.Model.{World, Making, start, interface_in, becomes, new_build, with_changes, or_empty, made_of, made_one, with_source, and_more, demo_behind, demo_answer, compiled_in}
+use Rattle.ob_builds.specs.Builds.{Text}
+use Rattle.ob_shell_model.specs.Library.{empty, with_entry}
+use Rattle.ob_shell_model.specs.Model.{World, Making, start, interface_in, or_empty, made_of, made_one, with_source, and_more, demo_behind, demo_answer, compiled_in}
 use Rattle.ob_builds.specs.Written.{BuildsAreWritten}
 use Rattle.law_session.specs.New.{NewIsValid}
 use Rattle.ob_builds.specs.Simulated.{StandFor}
@@ -29,7 +28,6 @@ use Rattle.law_session.proofs.Keeping.{source_stays}
 use Rattle.law_session.proofs.Named.{module_named}
 use Rattle.law_session.proofs.Core.{Core, CompilesSo, compiles_so}
 use Rattle.law_session.proofs.Commanded.{Alright, commands_so}
-use Rattle.law_lists.proofs.Lists.{bytes_same}
 
 -- THE EMPTY FOLDER
 

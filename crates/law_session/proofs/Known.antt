@@ -1,6 +1,6 @@
 -- What a load is told of valid builds.
-use Rattle.std.proofs.Common.{◌≡◌, ℕ, ◌≤◌, List, [], ◌∷◌, map, length, Bool, true, false, cond, not, refl, sym, ap, ◌∙◌, subst, Option, Some, None, inl}
-use Rattle.std.specs.Prelude.{nat_le, bytes_eq, Contains, ◌⊎◌}
+use Rattle.std.proofs.Common.{◌≡◌, ℕ, ◌≤◌, List, [], ◌∷◌, map, length, Bool, true, false, cond, not, refl, sym, ap, ◌∙◌, subst, Option, Some, None}
+use Rattle.std.specs.Prelude.{nat_le, bytes_eq, Contains}
 use Rattle.std.specs.List.{AllByRecursion}
 use Rattle.std.proofs.lemmas.Bool.{false≢true, leb-true}
 use Rattle.ob_tree.specs.declared.which.Which.{Which}

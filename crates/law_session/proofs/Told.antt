@@ -1,12 +1,9 @@
 -- Where no two texts of the builds spoken of have one print, prints tell apart all that a session compares.
-use Rattle.std.proofs.Common.{◌≡◌, ℕ, ◌+◌, ◌≤◌, List, [], ◌∷◌, ◌++◌, true, false, length, refl, sym, ap, ◌∙◌, subst, Option, Some, None, Result, Ok, Err, ⊎_elim, inl, inr, cond, Bool, arith}
+use Rattle.std.proofs.Common.{◌≡◌, ℕ, ◌+◌, ◌≤◌, List, [], ◌∷◌, ◌++◌, true, false, length, refl, sym, ap, subst, Option, Some, None, Result, Ok, Err, ⊎_elim, inl, inr, cond, Bool, arith}
 use Rattle.std.specs.Prelude.{zero, suc, map, bytes_eq, Contains, ◌⊎◌}
-use Rattle.std.specs.List.{AllByRecursion}
-use Rattle.std.proofs.lemmas.Bool.{false≢true}
-use Rattle.std.proofs.lemmas.Slice.Eq.{bytes_eq-Decides}
 use Rattle.ob_env.specs.Faces.{Face}
 use Rattle.ob_link.specs.Plan as load
-use Rattle.ob_link.specs.Plan.{Entry, Missing, TooLong, Junk, Holds}
+use Rattle.ob_link.specs.Plan.{Entry, Holds}
 use Rattle.ob_compile_model.specs.Compiling as compile
 use Rattle.ob_compile_model.specs.Compiling.{Compiled, imported}
 use Rattle.ob_demo.specs.Source.{module_name}
@@ -14,14 +11,14 @@ use Rattle.ob_link.specs.Files.{Files}
 use Rattle.ob_shell_lines.specs.Lines.{Line, Compile, Compare, Check, Show, Demo, Command, Unknown, Nothing, line_of, done_lines}
 use Rattle.ob_words.specs.declared.asked.Settings.{Settings}
 use Rattle.ob_builds.specs.Builds.{Text, Build, IsValid, shows_of}
-use Rattle.ob_builds.specs.Apart.{IsTextOf, IsTextOfBuild}
-use Rattle.ob_builds.specs.Simulated.{ended, joined}
+use Rattle.ob_builds.specs.Apart.{IsTextOfBuild}
+use Rattle.ob_builds.specs.Simulated.{ended}
 use Rattle.ob_shell_model.specs.Bytes.{source_name}
 use Rattle.ob_shell_model.specs.Folds.{changes_from, world_from}
-use Rattle.ob_shell_model.specs.Library.{Library, IsLibrary, IsEntry, ObjectBecomes, SymbolBecomes, with_entry, after_all, empty}
-use Rattle.ob_shell_model.specs.Model.{World, Making, start, answer, interface_in, becomes, new_build, or_empty, with_changes, with_source, compile_answer, compiled_in, load_answer, build_plan, demo_answer, demo_behind, made_of, made_one, and_more}
+use Rattle.ob_shell_model.specs.Library.{Library, IsLibrary, IsEntry, ObjectBecomes, SymbolBecomes, with_entry, after_all}
+use Rattle.ob_shell_model.specs.Model.{World, Making, start, answer, interface_in, becomes, new_build, or_empty, with_source, compile_answer, compiled_in, load_answer, build_plan, demo_answer, demo_behind, made_of, made_one, and_more}
 use Rattle.ob_shell_model.specs.Headline.{IsIn, IsOfDemo, IsText, Stands}
-use Rattle.ob_shell_model.specs.OneAge.{OfUses, OfBuilds, ByCompile, ByCheck, IsNeeded, ByLoad, ByDemo, ByLine, IsComparedFrom, StandsAsCompared}
+use Rattle.ob_shell_model.specs.OneAge.{ByCompile, ByCheck, IsNeeded, ByLoad, ByDemo, ByLine, StandsAsCompared}
 use Rattle.law_builds.proofs.Members.{In, to_in, has_left, has_right, has_more, has_head, has_none, has_take, has_either}
 use Rattle.law_builds.proofs.Again.{IsHeld, AreHeld, walk_again}
 use Rattle.law_session.specs.New.{NewIsValid}
