@@ -79,7 +79,7 @@ unfit_so types steps q d i h e =
 
 -- ---- the first
 
-pub at_name : List ℕ → List ℕ → QName
+unfoldable pub at_name : List ℕ → List ℕ → QName
 at_name m x = record { «module» = m; object = x }
 
 some_name : (p q : QName) → Some p ≡ Some q → p ≡ q
@@ -126,7 +126,7 @@ named_there (h ∷ hs) f (inr i) = by (bytes_eq f.«module» h.«module») (name
     by true k = (h, refl)
     by false k = k
 
-pub held_build : Build → Entry Build → Build
+unfoldable pub held_build : Build → Entry Build → Build
 held_build d (Holds b) = b
 held_build d e = d
 
