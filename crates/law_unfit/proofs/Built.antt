@@ -43,7 +43,6 @@ use Rattle.ob_uses.specs.Ways.{desc_leads, is_of}
 use Rattle.ob_uses.proofs.Objecting.{full_name}
 use Rattle.ob_uses.proofs.Sorting.{Has}
 use Rattle.ob_compile_model.specs.Compiling.{Compiled}
-use Rattle.law_names_distinct.specs.Distinct.{AreDistinct}
 use Rattle.law_local_files.specs.Agreeing.{Map, IsNear, IsFlat, On, as_shape}
 use Rattle.law_local_files.specs.Laws.{AreSpelled, HaveNoOut, AreMet}
 use Rattle.law_local_files.proofs.Agreed.{named_none, shapes_met, layouts_met}

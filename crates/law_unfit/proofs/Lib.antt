@@ -5,4 +5,5 @@ pub mod Words
 pub mod Around
 pub mod Built
 pub mod First
+pub mod Refused
 pub mod Whole
