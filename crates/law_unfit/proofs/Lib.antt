@@ -1,4 +1,3 @@
-pub mod Owed
 pub mod Followed
 pub mod Sizes
 pub mod Words
