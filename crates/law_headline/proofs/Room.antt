@@ -1,5 +1,5 @@
 -- The room for globals that a load counts is that of the declarations.
-use Rattle.std.proofs.Common.{◌≡◌, ℕ, suc, ◌+◌, ◌-◌, ◌≤◌, List, [], ◌∷◌, ◌++◌, length, ℤ, pos, Bool, true, false, refl, sym, ap, ◌∙◌, arith, length-append}
+use Rattle.std.proofs.Common.{◌≡◌, ℕ, suc, ◌+◌, ◌-◌, ◌≤◌, List, [], ◌∷◌, ◌++◌, length, pos, refl, sym, ap, ◌∙◌, arith, length-append}
 use Rattle.std.proofs.lemmas.List.{length-replicate}
 use Rattle.std.specs.Prelude.{map, replicate, not, nat_lt, nat_le, Contains}
 use Rattle.std.specs.List.{AllByRecursion}
@@ -16,7 +16,7 @@ use Rattle.ob_link.specs.Plan.{words_of}
 use Rattle.ob_builds.specs.Builds.{Build, tree_of, file_of, asks}
 use Rattle.law_builds.proofs.Members.{has_head, has_more}
 use Rattle.law_builds.proofs.Gone.{words_both}
-use Rattle.law_program_runs.specs.Builds.{program_of, AreLoaded, HasModule, BuildsStand}
+use Rattle.law_program_runs.specs.Builds.{program_of, AreLoaded, HasModule}
 use Rattle.law_program_runs.proofs.Settings.{are_few}
 use Rattle.law_headline.specs.Room.{RoomIsDeclared}
 use Rattle.law_headline.proofs.Whole.{stand}
