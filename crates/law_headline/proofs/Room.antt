@@ -1,6 +1,11 @@
 -- The room for globals that a load counts is that of the declarations.
-use Rattle.std.proofs.Common.{◌≡◌, ℕ, ◌+◌, ◌≤◌, List, [], ◌∷◌, ◌++◌, length, Bool, true, false, refl, sym, ap, ◌∙◌, arith}
-use Rattle.std.specs.Prelude.{map, not, nat_lt, nat_le, Contains}
+use Rattle.std.proofs.Common.{◌≡◌, ℕ, suc, ◌+◌, ◌-◌, ◌≤◌, List, [], ◌∷◌, ◌++◌, length, pos, refl, sym, ap, ◌∙◌, arith, length-append}
+use Rattle.std.proofs.lemmas.List.{length-replicate}
+use Rattle.std.specs.Prelude.{map, replicate, not, nat_lt, nat_le, Contains}
+use Rattle.std.specs.List.{AllByRecursion}
+use Rattle.ob_obj.specs.declared.parts.StringConst.{StringConst}
+use Rattle.ob_obj.specs.Grammar.{words_of as string_room}
+use Rattle.ob_obj.specs.Images.{string_words}
 use Rattle.ob_types.specs.declared.typed.TypedVariable.{TypedVariable}
 use Rattle.ob_meaning.specs.Values.{Program, form_in, words}
 use Rattle.ob_meaning.specs.Calls.{held_variable}
@@ -11,11 +16,26 @@ use Rattle.ob_link.specs.Plan.{words_of}
 use Rattle.ob_builds.specs.Builds.{Build, tree_of, file_of, asks}
 use Rattle.law_builds.proofs.Members.{has_head, has_more}
 use Rattle.law_builds.proofs.Gone.{words_both}
-use Rattle.law_program_runs.specs.Builds.{program_of, AreLoaded, HasModule, BuildsStand}
-use Rattle.law_program_runs.proofs.Images.{strings_length}
+use Rattle.law_program_runs.specs.Builds.{program_of, AreLoaded, HasModule}
 use Rattle.law_program_runs.proofs.Settings.{are_few}
 use Rattle.law_headline.specs.Room.{RoomIsDeclared}
 use Rattle.law_headline.proofs.Whole.{stand}
+
+length_map : (text : List ℕ) → length (map pos text) ≡ length text
+length_map [] = refl
+length_map (c ∷ text) = ap suc (length_map text)
+
+strings_length : (ss : List StringConst) → AllByRecursion (λ s. length s.text ≤ s.words) ss → length (string_words ss) ≡ string_room ss
+strings_length [] h = refl
+strings_length (s ∷ ss) h =
+    let pad = replicate (s.words - length s.text) (pos 0) in
+    let rest = strings_length ss h.1 in
+    let a = length-append (map pos s.text) (pad ++ string_words ss) in
+    let b = length-append pad (string_words ss) in
+    let p = length-replicate (s.words - length s.text) (pos 0) in
+    let m = length_map s.text in
+    let le = h.0 in
+    omega (arith, a, b, p, m, rest, le)
 
 variables_words : (program : Program) (vs : List TypedVariable) → slots_words (map (held_variable program) vs) ≡ words_of_variables program vs
 variables_words program [] = refl

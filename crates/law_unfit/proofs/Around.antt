@@ -6,20 +6,19 @@ use Rattle.std.specs.Cmp.Lexicographic.{bytes_decides}
 use Rattle.ob_tree.specs.declared.names.QName.{QName}
 use Rattle.ob_types.specs.declared.desc.Desc.{Desc}
 use Rattle.ob_format.specs.Format.{◌>>=◌}
-use Rattle.ob_layout.specs.Lists.{or_else}
 use Rattle.ob_sym.specs.Grammar.{face as face_form}
 use Rattle.ob_env.specs.Faces.{Face, Wanted, object_named, face_named, described, text_in, printed, interface_of}
-use Rattle.ob_env.specs.Stale.{StaleUse, Found, AsWanted, as_wanted, compared, found_as, unmet, first_among, first_stale}
+use Rattle.ob_env.specs.Stale.{as_wanted, compared, found_as, unmet, first_among, first_stale}
 use Rattle.ob_env.proofs.Grounded.{or_none}
 use Rattle.ob_env_walk.specs.Walk as walk
 use Rattle.ob_env_walk.specs.Walk.{Left, walk as walked_from}
 use Rattle.ob_link.specs.Plan.{Entry, Missing, TooLong, Junk, Holds}
 use Rattle.ob_compile_model.specs.Compiling.{Compiled}
-use Rattle.ob_builds.specs.Builds.{Text, Build, IsValid, of, shows_of, name_of}
+use Rattle.ob_builds.specs.Builds.{Text, Build, IsValid, shows_of, name_of}
 use Rattle.ob_shell_model.specs.Library.{Library, IsLibrary, IsEntry}
 use Rattle.ob_shell_model.specs.Model.{face_entry, interface_in}
 use Rattle.law_local_files.specs.Laws.{AreSpelled, HaveNoOut, AreMet}
-use Rattle.law_local.proofs.Walked.{IsBelow, LeavesBelow, AreNamed, walk_below, have_none}
+use Rattle.law_local.proofs.Walked.{LeavesBelow, AreNamed, walk_below, have_none}
 use Rattle.law_builds.proofs.Again.{IsHeld, AreHeld, walk_again}
 use Rattle.law_builds.proofs.Faces.{of_is}
 use Rattle.law_builds_written.proofs.Upheld.{builds_are_written}

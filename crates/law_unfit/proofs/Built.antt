@@ -43,7 +43,6 @@ use Rattle.ob_uses.specs.Ways.{desc_leads, is_of}
 use Rattle.ob_uses.proofs.Objecting.{full_name}
 use Rattle.ob_uses.proofs.Sorting.{Has}
 use Rattle.ob_compile_model.specs.Compiling.{Compiled}
-use Rattle.law_names_distinct.specs.Distinct.{AreDistinct}
 use Rattle.law_local_files.specs.Agreeing.{Map, IsNear, IsFlat, On, as_shape}
 use Rattle.law_local_files.specs.Laws.{AreSpelled, HaveNoOut, AreMet}
 use Rattle.law_local_files.proofs.Agreed.{named_none, shapes_met, layouts_met}
@@ -77,8 +76,8 @@ use Rattle.law_builds_types.proofs.closed_laws.Lists.{all_by, sifted}
 use Rattle.law_builds_types.proofs.closed_laws.Objects.{IsTypeIn, type_at, objects_have}
 use Rattle.law_builds_types.proofs.closed_laws.Reached.{IsIn, type_in, variable_in, head_in}
 use Rattle.law_builds_types.proofs.closed_laws.Seen.{keeps_seen, shown_less, seen_named}
-use Rattle.law_unfit.proofs.Owed.{builds_ruled}
-use Rattle.law_unfit.proofs.Around.{named_has}
+use Rattle.law_headline.proofs.owing_laws.Builds.{builds_ruled}
+use Rattle.law_unfit.proofs.Around.{named_has, all_two}
 use Rattle.law_unfit.proofs.Followed.{Good, all_true, stands, names, bases, places}
 use Rattle.law_unfit.specs.Unfit.{is_sized}
 use Rattle.law_unfit.proofs.Words.{line_of, words_all, line_now, line_then}
@@ -121,10 +120,6 @@ kept_test test (y ∷ ys) x i = by (test y) refl i (kept_test test ys x)
     by true e (inl s) r = ap test (sym s) ∙ e
     by true e (inr j) r = r j
     by false e j r = r j
-
-all_two : {A : Type 0} (P Q R : A → Type 0) → ((x : A) → P x → Q x → R x) → (xs : List A) → AllByRecursion P xs → AllByRecursion Q xs → AllByRecursion R xs
-all_two P Q R f [] p q = tt
-all_two P Q R f (x ∷ xs) p q = (f x p.0 q.0, all_two P Q R f xs p.1 q.1)
 
 -- what is seen of a type stands on what it shows, and on what it stands
 stands_seen : (P Q R : TypeRef → Type 0) → ((t : TypeRef) → P t → Q t → R t) → (d : Desc) → AllByRecursion P (shown_types d) → AllByRecursion Q (stands_on d) → AllByRecursion R (stands_on (seen (in_places d)))
@@ -823,15 +818,15 @@ module _
       short (suc n) (ref.Named q) i w = by (types_of (of b) q) refl w (λ t j k. short n t j k)
         where
           by : (o : Option Desc) → types_of (of b) q ≡ o → MatchOption o ⊥ (λ d. IsTrue (is_type d) × AllByRecursion (λ t. IsWithin (types_of (of b)) n t) (stands_on d)) → ((t : TypeRef) → IsIn (tree_of b) t → IsWithin (types_of (of b)) n t → is_within (described others) n t ≡ true) → chain_described (is_within (described others) n) (described others q) ≡ true
-          by None at w r = absurd w
-          by (Some e) at w r = own (is_own (tree_of b) q) refl
+          by None i w r = absurd w
+          by (Some e) said w r = own (is_own (tree_of b) q) refl
             where
               own : (k : Bool) → is_own (tree_of b) q ≡ k → chain_described (is_within (described others) n) (described others q) ≡ true
               own true o =
-                  ap (chain_described (is_within (described others) n)) (own_said q e o (i o) (sym (own_view q o) ∙ at))
-                  ∙ all_true (is_within (described others) n) (stands_on (seen (in_places e))) (stands_seen (IsIn (tree_of b)) (λ t. IsWithin (types_of (of b)) n t) (λ t. is_within (described others) n t ≡ true) r e (type_in (tree_of b) q e (sym (own_view q o) ∙ at) (i o)) w.1)
+                  ap (chain_described (is_within (described others) n)) (own_said q e o (i o) (sym (own_view q o) ∙ said))
+                  ∙ all_true (is_within (described others) n) (stands_on (seen (in_places e))) (stands_seen (IsIn (tree_of b)) (λ t. IsWithin (types_of (of b)) n t) (λ t. is_within (described others) n t ≡ true) r e (type_in (tree_of b) q e (sym (own_view q o) ∙ said) (i o)) w.1)
               own false o =
-                  let here : described (of b).against q ≡ Some e = sym (other_view q o) ∙ at in
+                  let here : described (of b).against q ≡ Some e = sym (other_view q o) ∙ said in
                   let held = stood_held (described (of b).against) e ((against_is_grounded b (of b) valid).held q e here) in
                   ap (chain_described (is_within (described others) n)) (same_now q e here)
                   ∙ all_true (is_within (described others) n) (stands_on e) (all_two (IsIn (tree_of b)) (λ t. IsWithin (types_of (of b)) n t) (λ t. is_within (described others) n t ≡ true) r (stands_on e) (all_from (λ t. IsHeld (described (of b).against) t) (IsIn (tree_of b)) not_own (stands_on e) held) w.1)

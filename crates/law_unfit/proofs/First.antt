@@ -1,36 +1,22 @@
 -- The first object that does not fit, where all else of it does.
-use Rattle.std.proofs.Common.{◌≡◌, ◌⊎◌, inl, inr, ℕ, zero, suc, ◌+◌, ◌≤◌, Bool, true, false, cond, not, List, [], ◌∷◌, Option, Some, None, refl, sym, ap, subst, ◌∙◌, arith}
-use Rattle.std.specs.Prelude.{◌&&◌, ◌||◌, bytes_eq, nat_le, MatchOption, IsTrue}
-use Rattle.std.specs.List.{AllByRecursion}
-use Rattle.std.proofs.lemmas.Bool.{false≢true}
+use Rattle.std.proofs.Common.{◌≡◌, ◌⊎◌, inl, inr, ℕ, Bool, true, false, cond, not, List, [], ◌∷◌, Option, Some, None, refl, sym, ap, subst, ◌∙◌}
+use Rattle.std.specs.Prelude.{◌&&◌, ◌||◌, bytes_eq}
 use Rattle.std.specs.Cmp.Lexicographic.{bytes_decides}
 use Rattle.ob_tree.specs.declared.names.QName.{QName}
-use Rattle.ob_tree.specs.declared.ident.Mark.{Mark}
-use Rattle.ob_types.specs.declared.types.Basic.{Basic}
-use Rattle.ob_types.specs.declared.types.TypeRef.{TypeRef}
 use Rattle.ob_types.specs.declared.types.TypeRef.TheVariants as ref
 use Rattle.ob_types.specs.declared.desc.Desc.{Desc}
 use Rattle.ob_types.specs.declared.desc.Desc.TheVariants as desc
 use Rattle.ob_types.specs.Maps.{is_type}
-use Rattle.ob_format.specs.Format.{◌>>=◌}
-use Rattle.ob_layout.specs.Words.{described_words, words_within, words_of, most_words}
-use Rattle.ob_env.specs.Faces.{Face, object_named, face_named, described}
-use Rattle.ob_env.specs.Fit.{is_within, names_types, has_bases, keeps_places, has_few_words, has_few_procedures, covers_base, has_fields_inside, has_own_numbers, has_distinct_names, is_sound_record, stands, fits, steps_of, misfit, first_unfit, unless}
+use Rattle.ob_env.specs.Faces.{Face, face_named}
+use Rattle.ob_env.specs.Fit.{is_within, names_types, has_bases, keeps_places, has_few_words, has_few_procedures, covers_base, has_fields_inside, has_own_numbers, has_distinct_names, is_sound_record, stands, fits, misfit, unless}
 use Rattle.ob_env.specs.Stale.{first_among}
 use Rattle.ob_layout.specs.Lists.{or_else}
-use Rattle.ob_uses_roots.specs.Counts.{own_name}
-use Rattle.ob_uses.specs.Objects.{objects_of}
-use Rattle.law_spelling.proofs.Objects.{objects_rise}
 use Rattle.law_typing_forms.specs.Said.{IsOneOf}
-use Rattle.law_typing_forms.proofs.Modules.{of_all}
-use Rattle.law_lists.proofs.Lists.{and_parts, both_true}
-use Rattle.ob_builds.specs.Builds.{Text, Build, of, name_of, tree_of, shows_of}
+use Rattle.ob_builds.specs.Builds.{Text, Build, shows_of}
 use Rattle.ob_link.specs.Plan.{Entry, Holds}
 use Rattle.ob_shell_model.specs.Library.{Library}
-use Rattle.law_builds.proofs.Faces.{within_limit}
-use Rattle.law_typing_env.specs.Shallow.{passes_to, IsShallow}
-use Rattle.law_unfit.specs.Unfit.{is_sized, fits_else, IsDeep, IsTwice, IsUnfit, IsOfThisAge, FitElse, BuildsFitElse}
-use Rattle.law_unfit.proofs.Around.{IsOf, Named, named_has, Agreed, Described, agreed_of, is_described}
+use Rattle.law_unfit.specs.Unfit.{is_sized, fits_else, IsDeep, IsTwice, IsUnfit}
+use Rattle.law_unfit.proofs.Around.{IsOf}
 
 -- ---- what does not fit, where all else does
 
@@ -79,7 +65,7 @@ unfit_so types steps q d i h e =
 
 -- ---- the first
 
-pub at_name : List ℕ → List ℕ → QName
+unfoldable pub at_name : List ℕ → List ℕ → QName
 at_name m x = record { «module» = m; object = x }
 
 some_name : (p q : QName) → Some p ≡ Some q → p ≡ q
@@ -126,7 +112,7 @@ named_there (h ∷ hs) f (inr i) = by (bytes_eq f.«module» h.«module») (name
     by true k = (h, refl)
     by false k = k
 
-pub held_build : Build → Entry Build → Build
+unfoldable pub held_build : Build → Entry Build → Build
 held_build d (Holds b) = b
 held_build d e = d
 

@@ -1,11 +1,9 @@
 -- The interfaces of builds that agree fit one another, but for chains that are too long and names that are twice.
-use Rattle.std.proofs.Common.{◌≡◌, ◌⊎◌, inl, inr, ℕ, zero, suc, ◌+◌, ◌≤◌, Bool, true, false, cond, not, List, [], ◌∷◌, Option, Some, None, refl, sym, ap, subst, ◌∙◌, arith}
-use Rattle.std.specs.Prelude.{◌&&◌, ◌||◌, bytes_eq, nat_le, MatchOption, IsTrue}
+use Rattle.std.proofs.Common.{◌≡◌, ℕ, zero, suc, ◌+◌, ◌≤◌, Bool, true, false, not, List, Option, Some, None, refl, sym, ap, subst, ◌∙◌, arith, Err}
+use Rattle.std.specs.Prelude.{◌||◌, nat_le, bytes_eq}
 use Rattle.std.specs.List.{AllByRecursion}
 use Rattle.std.proofs.lemmas.Bool.{false≢true}
-use Rattle.std.specs.Cmp.Lexicographic.{bytes_decides}
 use Rattle.ob_tree.specs.declared.names.QName.{QName}
-use Rattle.ob_tree.specs.declared.ident.Mark.{Mark}
 use Rattle.ob_types.specs.declared.types.Basic.{Basic}
 use Rattle.ob_types.specs.declared.types.TypeRef.{TypeRef}
 use Rattle.ob_types.specs.declared.types.TypeRef.TheVariants as ref
@@ -14,26 +12,29 @@ use Rattle.ob_types.specs.declared.desc.Desc.TheVariants as desc
 use Rattle.ob_types.specs.Maps.{is_type}
 use Rattle.ob_format.specs.Format.{◌>>=◌}
 use Rattle.ob_layout.specs.Words.{described_words, words_within, words_of, most_words}
-use Rattle.ob_env.specs.Faces.{Face, object_named, face_named, described}
-use Rattle.ob_env.specs.Fit.{is_within, names_types, has_bases, keeps_places, has_few_words, has_few_procedures, covers_base, has_fields_inside, has_own_numbers, has_distinct_names, is_sound_record, stands, fits, steps_of, misfit, first_unfit, unless}
-use Rattle.ob_env.specs.Stale.{first_among}
-use Rattle.ob_layout.specs.Lists.{or_else}
+use Rattle.ob_env.specs.Faces.{Face, object_named, face_named, described, text_in}
+use Rattle.ob_env.specs.Fit.{is_within, has_few_words, steps_of, first_unfit}
 use Rattle.ob_uses_roots.specs.Counts.{own_name}
 use Rattle.ob_uses.specs.Objects.{objects_of}
 use Rattle.law_spelling.proofs.Objects.{objects_rise}
 use Rattle.law_typing_forms.specs.Said.{IsOneOf}
 use Rattle.law_typing_forms.proofs.Modules.{of_all}
 use Rattle.law_builds_types.proofs.closed_laws.Objects.{exact}
-use Rattle.law_lists.proofs.Lists.{and_parts, both_true}
-use Rattle.ob_builds.specs.Builds.{Text, Build, of, name_of, tree_of, shows_of}
-use Rattle.ob_link.specs.Plan.{Entry, Holds}
-use Rattle.ob_shell_model.specs.Library.{Library}
+use Rattle.law_lists.proofs.Lists.{both_true}
+use Rattle.ob_builds.specs.Builds.{Text, Build, of, tree_of}
+use Rattle.ob_link.specs.Plan.{Holds}
+use Rattle.ob_compile_model.specs.Compiling.{NoFit, compiled, texts}
+use Rattle.ob_env.specs.Stale.{first_stale}
+use Rattle.ob_env_walk.specs.Walk.{Left, walk}
+use Rattle.ob_shell_model.specs.Model.{interface_in}
+use Rattle.ob_shell_model.specs.Library.{Library, IsLibrary}
 use Rattle.law_builds.proofs.Faces.{within_limit}
 use Rattle.law_typing_env.specs.Shallow.{passes_to, IsShallow}
-use Rattle.law_unfit.specs.Unfit.{is_sized, fits_else, IsDeep, IsTwice, IsUnfit, IsOfThisAge, FitElse, BuildsFitElse}
-use Rattle.law_unfit.proofs.Around.{IsOf, Named, named_has, Agreed, Described, agreed_of, is_described}
+use Rattle.law_unfit.specs.Unfit.{is_sized, fits_else, IsDeep, IsUnfit, IsOfThisAge, FitElse, IsRefusedFor, BuildsFitElse}
+use Rattle.law_unfit.proofs.Around.{IsOf, named_has, Agreed, Described, agreed_of, is_described}
 use Rattle.law_unfit.proofs.Built.{shown_objects, valid, type_short, OwnType, own_type, own_line, type_words, type_sizes, objects_good, names_fit, bases_fit, places_fit, name_is}
 use Rattle.law_unfit.proofs.Words.{Line}
+use Rattle.law_unfit.proofs.Refused.{no_fit, by_compile}
 use Rattle.law_unfit.proofs.First.{unfit_so, at_name, first_face, same_face, named_there, held_build}
 
 module _ (l : Library) (faces : List (Face Text)) (a : Agreed l faces) where
@@ -146,7 +147,14 @@ module _ (l : Library) (faces : List (Face Text)) (a : Agreed l faces) where
       let s = subst (λ p. is_within (described faces) 201 (ref.Named p) ≡ true) (name_at l faces a q d k deep.0) (type_short faces a.spelled a.out k.build k.compiled k.valid k.met k.here now t.t t.there t.reached) in
       false≢true (sym deep.1 ∙ s)
 
-pub builds_fit_else : BuildsFitElse
-builds_fit_else l lib root imports faces w agree =
+around_fits : (l : Library) → IsLibrary l → (root : List ℕ) (imports : List (List ℕ)) (faces : List (Face Text)) → walk (interface_in l) root imports ≡ Left faces → first_stale bytes_eq (text_in faces) faces ≡ None → FitElse l faces
+around_fits l lib root imports faces w agree =
     let a = agreed_of l lib root imports faces w agree in
     record { else = else_fits l faces a; unfit = first_unfit_is l faces a; grown = not_deep l faces a }
+
+refused_for : (l : Library) → IsLibrary l → (source : Option (List ℕ)) (q : QName) → compiled texts (interface_in l) source ≡ Err (NoFit q) → IsRefusedFor l q
+unfolding no_fit
+refused_for l lib source q e = by_compile (IsRefusedFor l) (interface_in l) (λ root imports faces w agree q i. record { faces = faces; first = i; is = around_fits l lib root imports faces w agree }) source q (ap no_fit e)
+
+pub builds_fit_else : BuildsFitElse
+builds_fit_else l lib = record { around = around_fits l lib; refused = refused_for l lib }

@@ -1,5 +1,5 @@
 -- The words of types among interfaces of builds keep their limit.
-use Rattle.std.proofs.Common.{◌≡◌, ℕ, zero, suc, ◌+◌, ◌*◌, ◌≤◌, Bool, true, false, List, [], ◌∷◌, Option, Some, None, refl, sym, ap, subst, ◌∙◌, arith}
+use Rattle.std.proofs.Common.{◌≡◌, ℕ, zero, suc, ◌+◌, ◌*◌, true, List, [], ◌∷◌, Option, Some, None, refl, sym, ap, subst, ◌∙◌, arith}
 use Rattle.std.specs.Prelude.{MatchOption, IsTrue}
 use Rattle.std.specs.List.{AllByRecursion}
 use Rattle.ob_tree.specs.declared.names.QName.{QName}
@@ -8,9 +8,9 @@ use Rattle.ob_types.specs.declared.types.TypeRef.TheVariants as ref
 use Rattle.ob_types.specs.declared.desc.Desc.{Desc}
 use Rattle.ob_types.specs.declared.desc.Desc.TheVariants as desc
 use Rattle.ob_types.specs.Maps.{is_type, stands_on, IsHeld, IsWithin}
-use Rattle.ob_layout.specs.Words.{described_words, words_within, words_of, most_words}
+use Rattle.ob_layout.specs.Words.{described_words, words_within, words_of}
 use Rattle.law_lists.proofs.Lists.{all_from}
-use Rattle.law_local_files.specs.Agreeing.{Map, On}
+use Rattle.law_local_files.specs.Agreeing.{Map}
 use Rattle.law_typing_env.specs.Near.{core}
 use Rattle.law_typing_env.specs.Shallow.{passes_to, IsShallow}
 use Rattle.law_unfit.proofs.Followed.{type_kind}

@@ -54,5 +54,15 @@ pub record FitElse (l : Library) (faces : List (Face Text)) : Type 0 where
   pub unfit : (q : QName) → first_unfit faces ≡ Some q → IsUnfit (described faces) (steps_of faces) q
   pub grown : (q : QName) (d : Desc) → described faces q ≡ Some d → IsDeep (described faces) q d → (b : Build) → l.symbols q.«module» ≡ Holds b → IsOfThisAge faces b → ⊥
 
+-- a compile is refused for an object: of such interfaces, it is the first that does not fit
+pub record IsRefusedFor (l : Library) (q : QName) : Type 0 where
+  pub faces : List (Face Text)
+  pub first : first_unfit faces ≡ Some q
+  pub is : FitElse l faces
+
+pub record FitElseIn (l : Library) : Type 0 where
+  pub around : (root : List ℕ) (imports : List (List ℕ)) (faces : List (Face Text)) → walk (interface_in l) root imports ≡ Left faces → first_stale bytes_eq (text_in faces) faces ≡ None → FitElse l faces
+  pub refused : (source : Option (List ℕ)) (q : QName) → compiled texts (interface_in l) source ≡ Err (NoFit q) → IsRefusedFor l q
+
 abbrev pub BuildsFitElse : Type 0
-BuildsFitElse = (l : Library) → IsLibrary l → (root : List ℕ) (imports : List (List ℕ)) (faces : List (Face Text)) → walk (interface_in l) root imports ≡ Left faces → first_stale bytes_eq (text_in faces) faces ≡ None → FitElse l faces
+BuildsFitElse = (l : Library) → IsLibrary l → FitElseIn l

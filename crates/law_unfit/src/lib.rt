@@ -9,8 +9,9 @@ ghost use Rattle.law_unfit.specs.Unfit.{BuildsFitElse};
 /// each type that it names is there; bases are records, and pointers point to records and arrays; open
 /// arrays and results stand where they may; words and bound procedures keep their limits; and a record
 /// covers its base, with its fields and numbers behind those of the base. So the first object that does
-/// not fit is a type that stands on itself or on a chain of more than 200 others, or a record in which
-/// two visible names are the same.
+/// not fit, and that a compile is refused for, is a type that stands on itself or on a chain of more
+/// than 200 others, or a record in which two visible names are the same. A type stands on such a chain
+/// only where an interface that its module was compiled against is another one by now, or is gone.
 pub fn builds_fit_else()
     ensures { BuildsFitElse }
 {}
