@@ -133,9 +133,11 @@ module _ (unit : List ℕ) (shown : QName → Option Desc) (out : is_out unit �
         let g = good (with_types w t.made) kv (back_empty mine.notes.broken r.notes.broken two) in
         let ls : (d.later ++ (ns.later ++ [])) ++ r.notes.later ≡ ns.later ++ r.notes.later = sym (append-nil ((d.later ++ (ns.later ++ [])) ++ r.notes.later)) ∙ later_is d.later ns.later r.notes.later (declares_nil u m (Some t) xs) in
         let quiet : is_quiet d.broken ≡ true = quiet_is d.broken (front_empty d.broken (ns.broken ++ []) (front_empty mine.notes.broken r.notes.broken two)) in
-        let both_of : Bool → Judged Parameters = λ b. if_sound (paired (if_quiet b (Some (parameters_of u m xs t))) r.node) (λ q. sound (parameters_joined q.0 q.1)) in
-        (subst (λ b. Has (AreParameters u.own (((d.later ++ (ns.later ++ [])) ++ r.notes.later) ++ (both_of b).notes.later)) (both_of b).node) (sym quiet)
-        (joined_has u.own ns.later r.notes.later ((d.later ++ (ns.later ++ [])) ++ r.notes.later) (parameters_of u m xs t) ls (one_section u m xs t name q ns.later i) refl r.node g.0), g.1)
+        let both_of : Bool → Judged Parameters = λ b. if_sound (paired (if_quiet b (Some (parameters_of u m xs t))) r.node) (λ q. sound (parameters_joined q.0 q.1)) in (
+          subst (λ b. Has (AreParameters u.own (((d.later ++ (ns.later ++ [])) ++ r.notes.later) ++ (both_of b).notes.later)) (both_of b).node) (sym quiet)
+              (joined_has u.own ns.later r.notes.later ((d.later ++ (ns.later ++ [])) ++ r.notes.later) (parameters_of u m xs t) ls (one_section u m xs t name q ns.later i) refl r.node g.0),
+          g.1,
+        )
 
     section_firm : (t : Judged Typing) → Tell (IsTyping unit shown out path names u name q true) t → TellSections u (section u m xs t rest)
     section_firm t h =

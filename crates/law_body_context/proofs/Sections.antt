@@ -264,7 +264,6 @@ module _ (IsConstant : Value → Type 0) (unit : List ℕ) (shown : QName → Op
           found = tt;
           known = λ P g f. r.known P (names_known P m None u u.known xs g (λ x ls i. f (record { name = x.name; scope = u.scope; what = entity.Unsound }) refl tt)) (λ x e i. f x e (entity_none u.own u.own (rest v).found.node x.what i));
         }
-
     behind_is u k (Some t) n s h = by (is_quiet s.broken)
       where
         v : Around
