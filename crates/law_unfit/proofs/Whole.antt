@@ -154,7 +154,7 @@ around_fits l lib root imports faces w agree =
 
 refused_for : (l : Library) → IsLibrary l → (source : Option (List ℕ)) (q : QName) → compiled texts (interface_in l) source ≡ Err (NoFit q) → IsRefusedFor l q
 unfolding no_fit
-refused_for l lib source q e = by_compile (IsRefusedFor l) (interface_in l) (λ root imports faces w agree q i. record { faces = faces; first = i; is = around_fits l lib root imports faces w agree }) source q (ap no_fit e)
+refused_for l lib source q e = by_compile (IsRefusedFor l) (interface_in l) (λ root imports faces w agree q i. record { root = root; imports = imports; faces = faces; walked = w; agree = agree; first = i; is = around_fits l lib root imports faces w agree }) source q (ap no_fit e)
 
 pub builds_fit_else : BuildsFitElse
 builds_fit_else l lib = record { around = around_fits l lib; refused = refused_for l lib }

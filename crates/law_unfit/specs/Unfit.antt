@@ -54,9 +54,13 @@ pub record FitElse (l : Library) (faces : List (Face Text)) : Type 0 where
   pub unfit : (q : QName) → first_unfit faces ≡ Some q → IsUnfit (described faces) (steps_of faces) q
   pub grown : (q : QName) (d : Desc) → described faces q ≡ Some d → IsDeep (described faces) q d → (b : Build) → l.symbols q.«module» ≡ Holds b → IsOfThisAge faces b → ⊥
 
--- a compile is refused for an object: of such interfaces, it is the first that does not fit
+-- A compile is refused for an object: it is the first that does not fit, among the interfaces of its walk, whose stored uses agree.
 pub record IsRefusedFor (l : Library) (q : QName) : Type 0 where
+  pub root : List ℕ
+  pub imports : List (List ℕ)
   pub faces : List (Face Text)
+  pub walked : walk (interface_in l) root imports ≡ Left faces
+  pub agree : first_stale bytes_eq (text_in faces) faces ≡ None
   pub first : first_unfit faces ≡ Some q
   pub is : FitElse l faces
 
