@@ -40,6 +40,10 @@ rows_of is = each (λ i. blanks_from 0 i.objects) is
 abbrev pub seen_at : List Interface → ℕ × ℕ → Option Desc
 seen_at is p = slice_get is p.0 >>= λ i. option_map (λ o. blank o.desc) (slice_get i.objects p.1)
 
+-- what is seen at the place of a name, where it has one
+abbrev pub seen_of : List Interface → Option (ℕ × ℕ) → Option Desc
+seen_of is place = place >>= seen_at is
+
 -- what is shown holds no more names than the interfaces
 pub shown_finite : {K : Type 0} (fs : List (Face K)) → IsFinite (shown fs)
 shown_finite fs = (names_of fs, λ q. either (λ n. ap (option_map blank) n) (λ k. contains (names_of fs) q k) (among fs q))

@@ -3,11 +3,10 @@
 ghost use Rattle.std.specs.Prelude.{◌≡◌, IfOk, slice_get};
 ghost use Rattle.std.specs.Option.{option_copied, option_map};
 ghost use Rattle.std.specs.List.Sorted.{IsStrictlySortedBy};
-ghost use Rattle.ob_format.specs.Format.{◌>>=◌};
 ghost use Rattle.ob_env.specs.Faces.{faces_of};
 ghost use Rattle.ob_env.specs.Shown.{blank, shown};
 ghost use Rattle.ob_types.specs.Relations.{is_record};
-ghost use Rattle.ob_env_shown.specs.Faces.{by_place, blanks_from, rows_of, blank_at, seen_at, shown_finite};
+ghost use Rattle.ob_env_shown.specs.Faces.{by_place, blanks_from, rows_of, blank_at, seen_at, seen_of, shown_finite};
 
 use crate::blank::{BlankRecord, BlankRecords};
 use ob_cdecl_scopes::Imports;
@@ -106,7 +105,7 @@ impl<'a> Shown<'a> {
     // The object at a place, without places, numbers and words.
     #[tactic(auto, using(crate::proofs::Blanks::seen_through))]
     fn at(&self, place: Option<(usize, usize)>) -> Option<&Desc>
-        ensures { option_copied result ≡ (place >>= seen_at self.now) }
+        ensures { option_copied result ≡ seen_of self.now place }
     {
         match place {
             None => None,
@@ -129,7 +128,6 @@ impl Types for Shown<'_> {
 }
 
 impl Imports for Shown<'_> {
-    #[tactic(auto, using(crate::proofs::Blanks::shown_by))]
     fn shown(&self, unit: &Name, name: &Name) -> Option<&Desc> {
         self.at(self.env.position(unit.as_bytes(), name.as_bytes()))
     }
