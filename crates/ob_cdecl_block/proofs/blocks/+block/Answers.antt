@@ -101,7 +101,7 @@ procedures-procedure_if-requires g t c κs within =
     let ready = subst (λ (y : Around). AreReady y.scope y.known (reverse c.declarations.left.items)) (sym all_is) c.declarations.invariant.ready in
     let fall = subst (λ (y : Around). are_within y.scope y.known ≡ true) (sym all_is) c.mark-all.ensures.fall in
     let coming = ap (λ (y : Around). y.coming) all_is ∙ c.requires.coming in
-    (no_more_in c.args.decls.now c.declarations.d-index c.d-item.result t (omega arith) c.d-item.is c.decreases, (within, (ready, (fall, coming))))
+    (no_more_in c.args.decls.now c.declarations.d-index c.d-item.result t (omega arith) c.d-item.is c.decreases, (within.0, (within.1, (ready, (fall, coming)))))
 
 pub procedures-declarations-preserved : goal.procedures-declarations-preserved
 procedures-declarations-preserved g t c =
@@ -148,7 +148,7 @@ procedure_if-procedure-requires g t c κs within =
     let u = around_of g.E.Types.types c.args.scope.now in
     let ready = first_ready_one u.scope (c.args.aside.now.items ++ u.known) (reverse c.args.heads.now.items) c.in-Some.head c.in-Some.ensures.first c.requires.ready in
     let p = c.in-Procedure in
-    (fewer_inside c.args.d.now p.heading p.decls c.as_slice.result.now p.body p.closing t p.is c.as_slice.ensures c.decreases, (within, (ready, (c.requires.fall, c.requires.coming))))
+    (fewer_inside c.args.d.now p.heading p.decls c.as_slice.result.now p.body p.closing t p.is c.as_slice.ensures c.decreases, (within.0, (within.1, (ready, (c.requires.fall, c.requires.coming)))))
 
 pub procedure_if-returns-in_ok-procedure-in-Some-clause-noted : goal.procedure_if-returns-in_ok-procedure-in-Some-clause-noted
 procedure_if-returns-in_ok-procedure-in-Some-clause-noted g t c = λ n hs k b.
