@@ -7,12 +7,10 @@ pub overflow_cast-result : goal.overflow_cast-result
 overflow_cast-result g c =
     let f : length c.in-Ok.built.face.objects ≤ 4096 = few_objects c.in-Ok.built.face c.in-Ok.ensures.fits in
     let e : length c.objects.result.now ≡ length c.in-Ok.built.face.objects = ap (λ (l : List Object). length l) c.objects.ensures in
-    let l = c.len.ensures in
-    omega (arith, f, e, l)
+    omega (arith, f, e)
 
 pub returns-in-Ok-clause-few : goal.returns-in-Ok-clause-few
 returns-in-Ok-clause-few g c =
     let f : length c.in-Ok.built.face.objects ≤ 4096 = few_objects c.in-Ok.built.face c.in-Ok.ensures.fits in
     let e : length c.objects.result.now ≡ length c.in-Ok.built.face.objects = ap (λ (l : List Object). length l) c.objects.ensures in
-    let l = c.len.ensures in
-    omega (arith, f, e, l)
+    omega (arith, f, e)
