@@ -264,11 +264,11 @@ def refusal_cases(bench):
          "K.Mod:1:18: error: cycle through A: A imports, directly or not, a module that imports A\n"
          "    MODULE K; IMPORT A;\n                     ^\nhint: modules don't import one another: put what both need into a third one\n"),
         ("unfit", "refused K.Mod: A.T^ unfit",
-         "K.Mod: error: A.T^ unfit: the interfaces do not fit together. Of builds that were compiled it comes in one way: "
-         "A.T^ stands on a chain of more than 200 types, since a module below A grew after A was compiled. Else it is of "
-         "files that no compiler made\nhint: compile A.Mod again\n"),
+         "K.Mod: error: A.T^ unfit: the interfaces do not fit together. Of builds that were compiled it comes in one way "
+         "that is known: A.T^ stands on a chain of more than 200 types, since a module below A changed after A was compiled. "
+         "Else it is of files that no compiler made\nhint: compile A.Mod again\n"),
         ("limit of imports", "refused K.Mod: limit imports",
-         "K.Mod: error: limit imports: more than 64 imports\n"
+         "K.Mod: error: limit imports: more than 64 imports, Out counted\n"
          "hint: a module has at most 64 imports: put some of them behind a module of their own\n"),
         ("limit of code", "refused K.Mod: limit code",
          "K.Mod: error: limit code: a limit of the module: objects, words, frame, globals, procedures, operands, code, file\n"
