@@ -1,1 +1,2 @@
+-- The lemmas, for laws to cite.
 pub mod Lists

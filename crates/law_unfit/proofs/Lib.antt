@@ -1,3 +1,4 @@
+-- The proof that builds fit but for two conditions, part by part.
 pub mod Followed
 pub mod Sizes
 pub mod Words

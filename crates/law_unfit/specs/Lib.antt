@@ -1,1 +1,2 @@
+-- What of the fit can fail over builds.
 pub mod Unfit

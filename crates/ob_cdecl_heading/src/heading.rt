@@ -124,6 +124,7 @@ fn heading_parameters<E: Imports, C: CheckExpr>(
     Ok((found, inside))
 }
 
+// Whether the module has a type of one of these names already.
 fn are_there<E: Imports>(scope: &Scope<'_, E>, types: &[TypedType]) -> bool
     ensures { result ≡ spec.are_there (around_of E.types scope.now) types.now }
 {
@@ -135,7 +136,7 @@ fn are_there<E: Imports>(scope: &Scope<'_, E>, types: &[TypedType]) -> bool
     false
 }
 
-// Rule 1.
+// The parameters, unless another declaration of the name has made their types: then rule 1 is broken, and there are none.
 fn made_anew<E: Imports>(
     scope: &Scope<'_, E>,
     book: &mut Notebook,

@@ -1,3 +1,4 @@
+-- The clauses of `one_age`: the headline where prints tell apart what is compared, and in one age.
 use Rattle.law_session.proofs.Held.{told, compared_holds, one_age_so}
 use Rattle.law_session.proofs.OneAge.{worlds_so, stays}
 use Rattle.law_session.proofs.one_age.Goals as goal

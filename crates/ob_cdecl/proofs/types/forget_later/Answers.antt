@@ -1,3 +1,4 @@
+-- What was left for later goes where the name is taken.
 use Rattle.std.proofs.Common.{◌≡◌, sym, ◌∙◌}
 use Rattle.ob_cdecl_scopes.specs.Scopes.{around_of}
 use Rattle.ob_cdecl.proofs.BookJoins.{forgets}

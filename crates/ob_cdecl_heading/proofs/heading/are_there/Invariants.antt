@@ -1,3 +1,4 @@
+-- None of the types so far is there.
 use Rattle.std.proofs.Common.{◌≡◌, drop}
 use Rattle.ob_cdecl_scopes.specs.Scopes.{around_of}
 use Rattle.ob_rules.specs.Headings as spec
