@@ -8,6 +8,7 @@ pub data Line : Type 0 where
   Compare : (old new : List ℕ) → Line
   Check : (m : List ℕ) → Line
   Show : (m : List ℕ) → Line
+  Make : (m : List ℕ) → Line
   Demo : (n : ℕ) → Line
   Command : (m command : List ℕ) → Line
   Unknown : Line
@@ -117,6 +118,7 @@ line_of_two word other =
     if bytes_eq word (codes "compile") then when (is_file_name other) (Compile other)
     else if bytes_eq word (codes "check") then when (is_identifier other) (Check other)
     else if bytes_eq word (codes "show") then when (is_identifier other) (Show other)
+    else if bytes_eq word (codes "make") then when (is_identifier other) (Make other)
     else if bytes_eq word (codes "demo") then demo_line (count_of other)
     else Unknown
 

@@ -3,7 +3,7 @@
 ghost use Rattle.std.specs.Prelude.{◌≡◌, ◌<◌, ◌∷◌, ◌≤◌, ◌+◌, ◌-◌, ◌*◌, ◌++◌, [], ◌&&◌, true, false, ℕ, List, ◌||◌, ◌^◌, IfNone, length, codes, take, drop, position, IfSome, MatchOption, min, nat_lt, nat_le, Some};
 ghost use Rattle.std.specs.List.{list_all};
 ghost use Rattle.ob_parse_grammar.specs.Identifiers.{is_letter, is_letter_or_digit, is_identifier};
-ghost use Rattle.ob_shell_lines.specs.Lines.{lines_of, words_of, line_of, is_blank, name_byte, is_file_name, when, is_digit, is_first_digit, up_to_sixty, number_if, count_of, demo_line, command_line, dotted, is_dot, line_of_two, line_of_three, line_of_words, without_return, passes, Compile, Compare, Check, Show, Command};
+ghost use Rattle.ob_shell_lines.specs.Lines.{lines_of, words_of, line_of, is_blank, name_byte, is_file_name, when, is_digit, is_first_digit, up_to_sixty, number_if, count_of, demo_line, command_line, dotted, is_dot, line_of_two, line_of_three, line_of_words, without_return, passes, Compile, Compare, Check, Show, Make, Command};
 ghost use Rattle.ob_shell_lines.specs.Views.{line_view};
 ghost use Rattle.ob_shell_lines.specs.Splits.{starts_blank, FirstLine, Stops, GoesOn, Behind};
 
@@ -20,6 +20,8 @@ pub enum LineWords<'a> {
     Check(Name),
     /// Shows the interface of a module.
     Show(Name),
+    /// Compiles what is stale, up to a module.
+    Make(Name),
     /// Runs a demo of so many modules, 1 to 60.
     Demo(u32),
     /// Runs a command of a module.
@@ -196,6 +198,16 @@ fn show_words<'a>(name: &[u8]) -> LineWords<'a>
     }
 }
 
+fn make_words<'a>(name: &[u8]) -> LineWords<'a>
+    ensures { line_view result ≡ when (is_identifier name.now) (Make name.now) }
+{
+    if is_identifier(name) {
+        LineWords::Make(Name::new(name))
+    } else {
+        LineWords::Unknown
+    }
+}
+
 fn command_words<'a>(name: &[u8], command: &[u8]) -> LineWords<'a>
     ensures { line_view result ≡ command_line name.now command.now }
 {
@@ -291,6 +303,8 @@ fn two_words<'a>(word: &[u8], other: &'a [u8]) -> LineWords<'a>
         check_words(other)
     } else if word == b"show".as_slice() {
         show_words(other)
+    } else if word == b"make".as_slice() {
+        make_words(other)
     } else if word == b"demo".as_slice() {
         demo_words(other)
     } else {

@@ -20,7 +20,9 @@ use Rattle.ob_shell_lines.specs.Lines as line
 use Rattle.ob_shell_lines.specs.Lines.{Line}
 use Rattle.ob_words.specs.declared.asked.Settings.{Settings}
 use Rattle.ob_shell_reports.specs.Texts.{refused, compile_refused, load_refused, report, stops, demo_text, unknown_text, no_interface, too_long, damaged}
-use Rattle.ob_shell_model.specs.Folds.{Answer}
+use Rattle.ob_make.specs.Folder.{seen_in, prints as marks, source_name as source_file}
+use Rattle.ob_shell_model.specs.Folds.{Answer, part, printed_by}
+use Rattle.ob_shell_model.specs.Making.{Maker, make_answer}
 use Rattle.ob_shell_model.specs.Files.{SymFile, IsMissing, IsLong, IsDamaged, IsOf, sym_file, stood}
 
 -- What a session keeps: the files of the folder, the loaded files in their order, the words of the three areas, and the next free
@@ -57,7 +59,7 @@ abbrev pub denied : List ℕ → Said
 denied text = record { text = text; refused = true }
 
 abbrev pub says : World → Said → Answer World Change
-says w s = record { world = w; changes = []; opening = []; text = s.text; refused = s.refused }
+says w s = record { world = w; parts = part [] s.text; refused = s.refused }
 
 -- ---- compile
 
@@ -73,9 +75,7 @@ abbrev pub compile_answer : World → List ℕ → Result (Compiled Print) (comp
 compile_answer w name (Err r) = says w (denied (compile_refused name r))
 compile_answer w name (Ok c) = record {
   world = record w { files = changed w.files (files_of c) };
-  changes = files_of c;
-  opening = [];
-  text = counted w.files c.shows;
+  parts = part (files_of c) (counted w.files c.shows);
   refused = false;
 }
 
@@ -87,9 +87,7 @@ compiled_in w text = compiled prints (symbol_entry w.files) text
 abbrev pub ran_answer : World → Ran → Answer World Change
 ran_answer w r = record {
   world = record { files = w.files; loaded = r.loaded; words = r.words; heap = r.heap };
-  changes = [];
-  opening = [];
-  text = r.text ++ report r.outcome;
+  parts = part [] (r.text ++ report r.outcome);
   refused = stops r.outcome;
 }
 
@@ -161,14 +159,24 @@ demo_from n (suc more) i objects files = and_more (made_one n i files) (λ x. de
 unfoldable pub demo_made : ℕ → Making
 demo_made n = demo_from n n 1 0 no_files
 
--- the last module's command over the files that were made, in a fresh system
+-- the last module's command over the files that were made, in a fresh system, behind the first printed line
 abbrev pub demo_ran : World → List ℕ → Answer World Change → Answer World Change
-demo_ran w opening a = record { world = w; changes = []; opening = opening; text = opening ++ a.text; refused = a.refused }
+demo_ran w opening a = record { world = w; parts = part [] opening ++ part [] (printed_by a.parts); refused = a.refused }
 
 -- that a module of a demo is refused does not come
 abbrev pub demo_answer : Settings → World → ℕ → Making → Answer World Change
 demo_answer s w n None = says w (denied [])
 demo_answer s w n (Some x) = demo_ran w (demo_text n x.0) (command_answer s (start s x.1) (module_name n) (codes "Go"))
+
+-- ---- make
+
+-- a module is compiled from its source file, as by a line `compile`
+abbrev pub maker : Maker World Change Print
+maker = record {
+  sees = λ w. seen_in w.files;
+  marks = marks;
+  compile = λ w x. compile_answer w (source_file x) (compiled_in w (w.files (source_file x)));
+}
 
 -- ---- A LINE OF THE SCRIPT
 
@@ -177,6 +185,7 @@ abbrev pub answer : Settings → World → ℕ → Line → Answer World Change
 answer s w n (line.Compile name) = compile_answer w name (compiled_in w (w.files name))
 answer s w n (line.Compare old new) = says w (compared old new (sym_file w.files old) (sym_file w.files new))
 answer s w n (line.Check m) = says w (check_said m (check_of w.files m))
+answer s w n (line.Make m) = make_answer maker m w
 answer s w n (line.Show m) = says w (shown (symbol_name m) (sym_file w.files (symbol_name m)))
 answer s w n (line.Demo k) = demo_answer s w k (demo_made k)
 answer s w n (line.Command m command) = command_answer s w m command

@@ -2,14 +2,31 @@
 use Rattle.std.specs.Prelude.{ℕ, ◌+◌, List, [], ◌∷◌, ◌++◌, Bool, false, ◌||◌, if◌then◌else◌, length}
 use Rattle.ob_shell_lines.specs.Lines.{Line, lines_of, exceeds, done_lines, line_of}
 
--- What a line comes to: the world after it, the changes of files that it makes, in order, what it prints, the first printed line
--- of a demo or nothing, and whether the line was refused, unknown or stopped.
+-- A part of what a line does: changes of files, and what is printed behind them.
+pub record Part (C : Type 0) : Type 0 where
+  pub changes : List C
+  pub text : List ℕ
+
+-- What a line comes to: the world after it, its parts in order, and whether the line was refused, unknown or stopped. Most lines have one
+-- part; a demo has two, its first printed line and the text of its run; a `make` has one for each compile and one at its end.
 pub record Answer (W C : Type 0) : Type 0 where
   pub world : W
-  pub changes : List C
-  pub opening : List ℕ
-  pub text : List ℕ
+  pub parts : List (Part C)
   pub refused : Bool
+
+-- one part
+abbrev pub part : {C : Type 0} → List C → List ℕ → List (Part C)
+part changes text = record { changes = changes; text = text } ∷ []
+
+-- what parts print
+abbrev pub printed_by : {C : Type 0} → List (Part C) → List ℕ
+printed_by [] = []
+printed_by (p ∷ ps) = p.text ++ printed_by ps
+
+-- the changes that they make
+abbrev pub made_by : {C : Type 0} → List (Part C) → List C
+made_by [] = []
+made_by (p ∷ ps) = p.changes ++ made_by ps
 
 -- the answer to the line with this number, in a world
 abbrev pub Answers : Type 0 → Type 0 → Type 0
@@ -18,7 +35,7 @@ Answers W C = W → ℕ → Line → Answer W C
 -- the text of these lines, the first of which has the number n
 unfoldable pub text_from : {W C : Type 0} → Answers W C → W → ℕ → List (List ℕ) → List ℕ
 text_from answer w n [] = []
-text_from answer w n (l ∷ ls) = (answer w n (line_of l)).text ++ text_from answer (answer w n (line_of l)).world (n + 1) ls
+text_from answer w n (l ∷ ls) = printed_by (answer w n (line_of l)).parts ++ text_from answer (answer w n (line_of l)).world (n + 1) ls
 
 -- whether one of them was refused, unknown or stopped, or one before was
 unfoldable pub refused_from : {W C : Type 0} → Answers W C → W → ℕ → List (List ℕ) → Bool → Bool
@@ -33,7 +50,7 @@ world_from answer w n (l ∷ ls) = world_from answer (answer w n (line_of l)).wo
 -- the changes that these lines make
 unfoldable pub changes_from : {W C : Type 0} → Answers W C → W → ℕ → List (List ℕ) → List C
 changes_from answer w n [] = []
-changes_from answer w n (l ∷ ls) = (answer w n (line_of l)).changes ++ changes_from answer (answer w n (line_of l)).world (n + 1) ls
+changes_from answer w n (l ∷ ls) = made_by (answer w n (line_of l)).parts ++ changes_from answer (answer w n (line_of l)).world (n + 1) ls
 
 -- A SESSION: its text, its status, and its changes
 

@@ -6,7 +6,7 @@ use Rattle.ob_link.specs.Files.{Files}
 use Rattle.ob_shell_lines.specs.Lines.{Demo, done_lines, line_of}
 use Rattle.ob_words.specs.declared.asked.Settings.{Settings}
 use Rattle.ob_shell_model.specs.Folds.{world_from, changes_from, session_changes}
-use Rattle.ob_shell_model.specs.Session.{Kind, Ends, IsCut, is_whole, next_of}
+use Rattle.ob_shell_model.specs.Session.{Kind, Ends, IsCut, is_whole, next_of, changes_up_to}
 use Rattle.ob_builds.specs.Builds.{Text, Build, shows_of, tree_of}
 use Rattle.ob_shell_model.specs.Library.{Library, IsLibrary, Kept, Change, ObjectBecomes, after_all}
 use Rattle.ob_shell_model.specs.Model.{World, start, answer, written_all, demo_behind}
@@ -56,7 +56,7 @@ pub record KeepsOn (s : Settings) (before now : List ℕ) (old new : Files) (l :
   pub kept : Kept new (after_all l (take made (session_changes (answer s) (start old l) script)))
   pub library : IsLibrary (after_all l (take made (session_changes (answer s) (start old l) script)))
   pub all : is_whole status ≡ true → length (session_changes (answer s) (start old l) script) ≤ made
-  pub cut : is_whole status ≡ false → (c : IsCut (kind s old l) before now old new (done_lines script) status) × (take made (session_changes (answer s) (start old l) script) ≡ changes_from (answer s) (start old l) 1 c.past ++ take c.made (next_of (answer s) (world_from (answer s) (start old l) 1 c.past) (1 + length c.past) c.rest).changes)
+  pub cut : is_whole status ≡ false → (c : IsCut (kind s old l) before now old new (done_lines script) status) × (take made (session_changes (answer s) (start old l) script) ≡ changes_from (answer s) (start old l) 1 c.past ++ changes_up_to (next_of (answer s) (world_from (answer s) (start old l) 1 c.past) (1 + length c.past) c.rest).parts c.cut.whole c.cut.made)
 
 -- the library that a session leaves
 abbrev pub left_by : (s : Settings) (before now : List ℕ) (old new : Files) (l : Library) (script : List ℕ) (status : ℕ) → KeepsOn s before now old new l script status → Library

@@ -21,7 +21,11 @@ use Rattle.ob_words.specs.declared.asked.Settings.{Settings}
 use Rattle.ob_shell_reports.specs.Texts.{compile_refused, load_refused, report, stops, demo_text, unknown_text}
 use Rattle.ob_builds.specs.Builds.{Text, Build, shows_of, bytes_of, symbols_of, asks}
 use Rattle.ob_builds.specs.Simulated.{outcome_of, joined, ended}
-use Rattle.ob_shell_model.specs.Folds.{Answer}
+use Rattle.ob_make.specs.Seen.{Has, Seen}
+use Rattle.ob_make.specs.Stale.{Marks}
+use Rattle.ob_make.specs.Folder.{source_of, source_name as source_file}
+use Rattle.ob_shell_model.specs.Folds.{Answer, part, printed_by}
+use Rattle.ob_shell_model.specs.Making.{Maker, make_answer}
 use Rattle.ob_shell_model.specs.Files.{sym_file}
 use Rattle.ob_shell_model.specs.Bytes.{Said, told, denied, compared, shown, check_said, no_files, source_name}
 use Rattle.ob_shell_model.specs.Library.{Library, Change, ObjectBecomes, SymbolBecomes, after_all, empty}
@@ -47,7 +51,7 @@ written_all files [] = files
 written_all files (c ∷ cs) = written_all (written files c) cs
 
 abbrev pub says : World → Said → Answer World Change
-says w s = record { world = w; changes = []; opening = []; text = s.text; refused = s.refused }
+says w s = record { world = w; parts = part [] s.text; refused = s.refused }
 
 -- COMPILE
 
@@ -87,9 +91,7 @@ abbrev pub compile_answer : World → List ℕ → List ℕ → Result (Compiled
 compile_answer w name text (Err r) = says w (denied (compile_refused name r))
 compile_answer w name text (Ok c) = record {
   world = with_changes w (becomes text c);
-  changes = becomes text c;
-  opening = [];
-  text = counted w.library c.shows;
+  parts = part (becomes text c) (counted w.library c.shows);
   refused = false;
 }
 
@@ -101,9 +103,7 @@ compiled_in w text = compiled texts (interface_in w.library) text
 abbrev pub ended_answer : World → List Build → Ended → Answer World Change
 ended_answer w bs e = record {
   world = record { files = w.files; library = w.library; loaded = joined bs e; system = e.system };
-  changes = [];
-  opening = [];
-  text = e.out ++ report (outcome_of e.why);
+  parts = part [] (e.out ++ report (outcome_of e.why));
   refused = stops (outcome_of e.why);
 }
 
@@ -133,6 +133,34 @@ uses_present (Holds b) = There (shows_of b).uses
 
 abbrev pub check_in : Library → List ℕ → Checked
 check_in l m = checked bytes_eq text_of (λ name. face_present (l.symbols name)) m (uses_present (l.objects m))
+
+-- MAKE
+
+-- what the object file of a build says
+abbrev pub has_as : Build → Has Text
+has_as b = record { imports = (shows_of b).imports; uses = (shows_of b).uses }
+
+abbrev pub has_present : Entry Build → Present (Has Text)
+has_present Missing = NotThere
+has_present TooLong = check.TooLong
+has_present Junk = Refused
+has_present (Holds b) = There (has_as b)
+
+-- what is seen in a world: the files of sources, and for the rest the library
+abbrev pub seen_in : World → Seen Text
+seen_in w = record { object = λ m. has_present (w.library.objects m); symbols = λ m. face_present (w.library.symbols m); source = λ m. source_of m (w.files (source_file m)) }
+
+-- in a library uses keep texts
+abbrev pub marks : Marks Text
+marks = record { agree = bytes_eq; has = text_of }
+
+-- a module is compiled from its source file, as by a line `compile`
+abbrev pub maker : Maker World Change Text
+maker = record {
+  sees = seen_in;
+  marks = marks;
+  compile = λ w x. compile_answer w (source_file x) (or_empty (w.files (source_file x))) (compiled_in w (w.files (source_file x)));
+}
 
 -- DEMO: a session of its own over an empty folder
 
@@ -164,7 +192,7 @@ demo_behind n zero = Some (0, start no_files empty)
 demo_behind n (suc k) = and_more (demo_behind n k) (made_one n (suc k))
 
 abbrev pub demo_ran : World → List ℕ → Answer World Change → Answer World Change
-demo_ran w opening a = record { world = w; changes = []; opening = opening; text = opening ++ a.text; refused = a.refused }
+demo_ran w opening a = record { world = w; parts = part [] opening ++ part [] (printed_by a.parts); refused = a.refused }
 
 -- that a module of a demo is refused does not come
 abbrev pub demo_answer : Settings → World → ℕ → Making → Answer World Change
@@ -178,6 +206,7 @@ abbrev pub answer : Settings → World → ℕ → Line → Answer World Change
 answer s w n (line.Compile name) = compile_answer w name (or_empty (w.files name)) (compiled_in w (w.files name))
 answer s w n (line.Compare old new) = says w (compared old new (sym_file w.files old) (sym_file w.files new))
 answer s w n (line.Check m) = says w (check_said m (check_in w.library m))
+answer s w n (line.Make m) = make_answer maker m w
 answer s w n (line.Show m) = says w (shown (symbol_name m) (sym_file w.files (symbol_name m)))
 answer s w n (line.Demo k) = demo_answer s w k (demo_behind k k)
 answer s w n (line.Command m name) = command_answer s w m name

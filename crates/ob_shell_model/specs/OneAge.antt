@@ -18,7 +18,10 @@ use Rattle.ob_builds.specs.Builds.{Text, Build, shows_of}
 use Rattle.ob_shell_model.specs.Bytes.{source_name}
 use Rattle.ob_shell_model.specs.Folds.{world_from}
 use Rattle.ob_shell_model.specs.Library.{Library, IsLibrary, Kept}
-use Rattle.ob_shell_model.specs.Model.{World, start, answer, interface_in, demo_behind, with_source}
+use Rattle.ob_make.specs.declared.turn.Turn.TheVariants as turn
+use Rattle.ob_make.specs.Folder.{source_name as source_file}
+use Rattle.ob_shell_model.specs.Making.{HasTurn, turn_at}
+use Rattle.ob_shell_model.specs.Model.{World, start, answer, interface_in, demo_behind, with_source, maker}
 use Rattle.ob_shell_model.specs.Headline.{IsIn}
 
 -- WHICH TEXTS ARE COMPARED: the one that a use keeps, with the one that its object has by now
@@ -59,11 +62,20 @@ ByDemo n kept found = (k : ℕ) × (x : ℕ × World) × (demo_behind n k ≡ So
     ⊎ ((k ≡ n) × ByLoad x.1.library x.1.loaded (module_name n) kept found)
     )
 
+-- A make of module m looks at each module x of its order in the world of x's turn: at the uses of its object file, and where it compiles
+-- x, at what the compile compares.
+abbrev pub ByMake : World → List ℕ → Text → Text → Type 0
+ByMake w m kept found = (x : List ℕ) × (v : World) × HasTurn maker m w x v × (
+    ByCheck v.library x kept found
+    ⊎ ((turn_at maker m v x ≡ turn.Compiles) × ByCompile v.library (v.files (source_file x)) kept found)
+    )
+
 -- by a line of a script
 abbrev pub ByLine : World → Line → Text → Text → Type 0
 ByLine w (line.Compile name) = ByCompile w.library (w.files name)
 ByLine w (line.Compare old new) = λ kept found. ⊥
 ByLine w (line.Check m) = ByCheck w.library m
+ByLine w (line.Make m) = ByMake w m
 ByLine w (line.Show m) = λ kept found. ⊥
 ByLine w (line.Demo n) = ByDemo n
 ByLine w (line.Command m name) = ByLoad w.library w.loaded m
@@ -111,13 +123,15 @@ Has w b = IsIn w.library b ⊎ Contains w.loaded b
 abbrev pub IsOfOneAge : World → Type 0
 IsOfOneAge w = (b d : Build) → Has w b → Has w d → AreOfOneAge (OfBuilds b d)
 
--- the worlds before the lines of a script and behind them, and those of its demos
+-- the worlds before the lines of a script and behind them, those of its demos, and those in which the modules of a make have their turns
 pub record StaysInOneAge (s : Settings) (files : Files) (l : Library) (script : List ℕ) : Type 0 where
   pub worlds : (past rest : List (List ℕ)) → done_lines script ≡ past ++ rest → IsOfOneAge (world_from (answer s) (start files l) 1 past)
   pub demos : (n k : ℕ) (text : List ℕ) (x : ℕ × World) → Contains (done_lines script) text → line_of text ≡ line.Demo n → k ≤ n → demo_behind n k ≡ Some x → IsOfOneAge x.1
+  pub turns : (past rest : List (List ℕ)) (text m x : List ℕ) (v : World) → done_lines script ≡ past ++ text ∷ rest → line_of text ≡ line.Make m → HasTurn maker m (world_from (answer s) (start files l) 1 past) x v → IsOfOneAge v
 
 -- a line that compiles nothing
 abbrev pub CompilesNothing : Line → Type 0
 CompilesNothing (line.Compile name) = ⊥
+CompilesNothing (line.Make m) = ⊥
 CompilesNothing (line.Demo n) = ⊥
 CompilesNothing l = Unit {0}

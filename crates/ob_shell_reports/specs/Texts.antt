@@ -164,6 +164,23 @@ stops (outcome.TurnsSpent name at) = true
 stops (outcome.Illegal name at) = true
 stops outcome.SinkFault = true
 
+-- MAKE
+
+-- why a module that is stale is refused
+abbrev pub no_source : List ℕ
+no_source = codes "no source\n"
+
+-- why there is no order: a need of this module stands on the path to it; or there are too many modules
+abbrev pub cycle_text : List ℕ → List ℕ
+cycle_text m = codes "cycle through " ++ (m ++ codes "\n")
+
+abbrev pub many_modules : List ℕ
+many_modules = codes "too many modules\n"
+
+-- how many modules were compiled
+abbrev pub made_text : List ℕ → ℕ → List ℕ
+made_text m count = codes "make " ++ (m ++ (codes ": " ++ (decimal count ++ codes " compiled\n")))
+
 -- FILES, DEMO, UNKNOWN
 
 -- why a symbol file is refused

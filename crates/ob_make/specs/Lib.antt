@@ -1,0 +1,5 @@
+pub mod Seen
+pub mod Order
+pub mod Stale
+pub mod Folder
+pub mod Answers
