@@ -8,8 +8,8 @@ use Rattle.ob_env.specs.Faces.{Wanted, Face}
 use Rattle.ob_env.specs.Stale.{Found, AsWanted, IsAbsent, IsChanged, compared}
 use Rattle.ob_cmp.specs.Check.{Present, NotThere, TooLong, Refused, There, in_face}
 use Rattle.ob_make.specs.Seen.{Has, Source, NoSource, Imports, Seen}
-use Rattle.ob_make.specs.declared.turn.Turn.{Turn}
-use Rattle.ob_make.specs.declared.turn.Turn.TheVariants as turn
+use Rattle.ob_make.specs.declared.turns.Turn.{Turn}
+use Rattle.ob_make.specs.declared.turns.Turn.TheVariants as turn
 
 -- How uses are met: when what is kept agrees with what there is, and what there is of an object and an aspect of an interface.
 pub record Marks (K : Type 0) : Type 0 where

@@ -2,11 +2,11 @@
 #![tactic(auto)]
 
 mod fault;
-mod order;
-mod stale;
-mod turn;
+mod ordering;
+mod staleness;
+mod turns;
 
 pub use fault::MakeFault;
-pub use order::order;
-pub use stale::{stale, turn};
-pub use turn::Turn;
+pub use ordering::order;
+pub use staleness::{stale, turn};
+pub use turns::Turn;

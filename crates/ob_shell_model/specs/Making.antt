@@ -4,8 +4,8 @@ use Rattle.ob_make.specs.Seen.{Seen}
 use Rattle.ob_make.specs.Order.{MakeEnd, Cycle, TooMany, order}
 use Rattle.ob_make.specs.Stale.{Marks, turn_in}
 use Rattle.ob_make.specs.Folder.{source_name}
-use Rattle.ob_make.specs.declared.turn.Turn.{Turn}
-use Rattle.ob_make.specs.declared.turn.Turn.TheVariants as turn
+use Rattle.ob_make.specs.declared.turns.Turn.{Turn}
+use Rattle.ob_make.specs.declared.turns.Turn.TheVariants as turn
 use Rattle.ob_shell_reports.specs.Texts.{refused, no_source, made_text, cycle_text, many_modules}
 use Rattle.ob_shell_model.specs.Folds.{Part, Answer, part}
 

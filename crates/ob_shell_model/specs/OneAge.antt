@@ -18,7 +18,7 @@ use Rattle.ob_builds.specs.Builds.{Text, Build, shows_of}
 use Rattle.ob_shell_model.specs.Bytes.{source_name}
 use Rattle.ob_shell_model.specs.Folds.{world_from}
 use Rattle.ob_shell_model.specs.Library.{Library, IsLibrary, Kept}
-use Rattle.ob_make.specs.declared.turn.Turn.TheVariants as turn
+use Rattle.ob_make.specs.declared.turns.Turn.TheVariants as turn
 use Rattle.ob_make.specs.Folder.{source_name as source_file}
 use Rattle.ob_shell_model.specs.Making.{HasTurn, turn_at}
 use Rattle.ob_shell_model.specs.Model.{World, start, answer, interface_in, demo_behind, with_source, maker}

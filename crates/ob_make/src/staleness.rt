@@ -6,7 +6,7 @@ ghost use Rattle.ob_make.specs.Folder.{seen_in, prints};
 ghost use Rattle.ob_make.specs.Answers.{AnswersAs, MakeHasCause};
 
 use crate::fault::MakeFault;
-use crate::turn::Turn;
+use crate::turns::Turn;
 use ob_io::Shelf;
 use ob_tree::Name;
 use std::alloc::Global;
