@@ -199,6 +199,14 @@ impl Case {
                 bytes.truncate(count);
                 Ok(self.files.put(name, &bytes)?)
             }
+            "lengthen" => {
+                let count: usize = other.parse()?;
+                let mut bytes = self.file(name)?.to_vec(self.alloc)?;
+                for _ in bytes.len()..count {
+                    bytes.push(b' ')?;
+                }
+                Ok(self.files.put(name, &bytes)?)
+            }
             "script-repeat" => {
                 let count: u32 = other.parse()?;
                 let mut script = String::new(self.alloc);

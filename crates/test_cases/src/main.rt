@@ -1,7 +1,7 @@
 //! Does the cases of some texts, each over files in memory, and prints what each session wrote, its
 //! status, and what is asked of the files: `cases.txt` has worked examples, `rules.txt` broken
 //! rules, `refusals.txt` refusals with their causes, `faults.txt` calls that fail, and
-//! `listings.txt` modules whose object files are listed.
+//! `listings.txt` modules whose object files are listed, and `makes.txt` lines `make`.
 #![tactic(auto)]
 
 mod cases;
@@ -19,7 +19,8 @@ fn main(rt: HostRuntime) -> anyhow::Result<()> {
     do_text(&rt, "rules.txt")?;
     do_text(&rt, "refusals.txt")?;
     do_text(&rt, "faults.txt")?;
-    do_text(&rt, "listings.txt")
+    do_text(&rt, "listings.txt")?;
+    do_text(&rt, "makes.txt")
 }
 
 // Does the cases of a text.
