@@ -85,11 +85,11 @@ both_named (x ∷ xs) ys a b = (a.0, both_named xs ys a.1 b)
 
 filter_named : (test : List ℕ → Bool) (xs : List (List ℕ)) → AreIdentifiers xs → AreIdentifiers (filter test xs)
 filter_named test [] a = tt
-filter_named test (x ∷ xs) a = go (test x)
+filter_named test (x ∷ xs) a = go (test x) (filter_named test xs a.1)
   where
-    go : (b : Bool) → AreIdentifiers (cond b (x ∷ filter test xs) (filter test xs))
-    go true = (a.0, filter_named test xs a.1)
-    go false = filter_named test xs a.1
+    go : (b : Bool) → AreIdentifiers (filter test xs) → AreIdentifiers (cond b (x ∷ filter test xs) (filter test xs))
+    go true r = (a.0, r)
+    go false r = r
 
 modules_named : (us : List (Wanted Text)) → AllByRecursion (λ u. is_identifier u.object.«module» ≡ true) us → AreIdentifiers (map (λ (w : Wanted Text). w.object.«module») us)
 modules_named [] a = tt
