@@ -1,28 +1,20 @@
 -- Each line agrees.
-use Rattle.std.proofs.Common.{◌≡◌, ℕ, ◌+◌, List, [], ◌∷◌, ◌++◌, Bool, true, false, refl, sym, ap, ◌∙◌, subst, Option, None, Result, Ok, Err, ⊎_elim}
-use Rattle.std.specs.Prelude.{map, ◌⊎◌}
-use Rattle.ob_tree.specs.declared.print.Print.{Print}
-use Rattle.ob_env_walk.specs.Walk.{symbol_name, symbol_entry}
-use Rattle.ob_cmp.specs.Check.{Checked, check_of, check_text, is_refused}
+use Rattle.std.proofs.Common.{◌≡◌, ℕ, ◌+◌, List, [], ◌∷◌, refl, ap, ◌∙◌}
+use Rattle.ob_env_walk.specs.Walk.{symbol_name}
+use Rattle.ob_cmp.specs.Check.{check_of, check_text, is_refused}
 use Rattle.ob_link.specs.Files.{Files}
-use Rattle.ob_compile_model.specs.Compiling as compile
-use Rattle.ob_compile_model.specs.Compiling.{Compiled, compiled, texts, prints}
-use Rattle.ob_parse_grammar.specs.Identifiers.{is_identifier}
 use Rattle.ob_shell_lines.specs.Lines.{Line, Compile, Compare, Check, Make, Show, Demo, Command, Unknown, Nothing, line_of}
 use Rattle.ob_words.specs.declared.asked.Settings.{Settings}
-use Rattle.ob_shell_reports.specs.Texts.{refused}
-use Rattle.ob_shell_model.specs.Folds.{Answer, world_from}
+use Rattle.ob_shell_model.specs.Folds.{world_from}
 use Rattle.ob_shell_model.specs.Files.{sym_file}
 use Rattle.ob_shell_model.specs.Bytes as bytes
 use Rattle.ob_shell_model.specs.Bytes.{compared, shown}
 use Rattle.ob_builds.specs.Builds.{Text}
-use Rattle.ob_shell_model.specs.Library.{Library, Change}
-use Rattle.ob_shell_model.specs.Model.{World, answer, interface_in, becomes, or_empty, compile_answer, check_in}
-use Rattle.law_session.specs.Agreeing.{AreSame}
+use Rattle.ob_shell_model.specs.Model.{World, answer, check_in}
 use Rattle.ob_builds.specs.Written.{BuildsAreWritten}
 use Rattle.law_session.specs.New.{NewIsValid}
 use Rattle.ob_shell_model.specs.OneAge.{ByLine, IsComparedFrom, AreToldApart}
-use Rattle.law_session.specs.Composing.{as_bytes, Alike, CompilesAlike, PlansAlike, ChecksAlike, LinesAgreeAll}
+use Rattle.law_session.specs.Composing.{CompilesAlike, PlansAlike, ChecksAlike, LinesAgreeAll}
 use Rattle.law_session.proofs.Named.{IsNamed, named}
 use Rattle.law_session.proofs.Core.{Core}
 use Rattle.law_session.proofs.Commanded.{Alright, one_part, commands_so}

@@ -5,9 +5,7 @@ use Rattle.std.specs.Option.{option_map}
 use Rattle.std.specs.List.{AllByRecursion}
 use Rattle.std.proofs.lemmas.Bool.{false≢true}
 use Rattle.std.proofs.lemmas.Slice.Eq.{bytes_eq-Decides}
-use Rattle.ob_tree.specs.declared.names.QName.{QName}
 use Rattle.ob_tree.specs.declared.print.Print.{Print}
-use Rattle.ob_types.specs.declared.face.Aspect.{Aspect}
 use Rattle.ob_types.specs.declared.face.Interface.{Interface}
 use Rattle.ob_types.specs.declared.desc.Desc.{Desc}
 use Rattle.ob_format.specs.Format.{whole, ◌>>=◌}
@@ -18,22 +16,20 @@ use Rattle.ob_sym.specs.Grammar.{face as face_form}
 use Rattle.ob_obj.specs.declared.file.ObjFile.{ObjFile}
 use Rattle.ob_obj.specs.Grammar.{file as object_form}
 use Rattle.ob_obj.specs.Laws.{file_exact}
-use Rattle.ob_env.specs.Faces.{Face, Wanted, wanted_of, use_of, face_of, printed, object_named, interface_of, text_in}
-use Rattle.ob_env.specs.Stale.{Found, AsWanted, IsAbsent, IsChanged, as_wanted, compared, prints_agree}
+use Rattle.ob_env.specs.Faces.{Face, Wanted, wanted_of, face_of, printed, object_named, interface_of, text_in}
+use Rattle.ob_env.specs.Stale.{IsAbsent, as_wanted, compared, prints_agree}
 use Rattle.ob_env_walk.specs.Walk as walk
 use Rattle.ob_env_walk.specs.Walk.{file_limit, symbol_name, named_face}
-use Rattle.ob_cmp.specs.declared.verdict.Stale.{Stale}
 use Rattle.ob_cmp.specs.Check as check
 use Rattle.ob_cmp.specs.Check.{Checked, IsStale, NoObject, DamagedFile, LongFile, Present, NotThere, Refused, There, stale_if, and_also, in_face, beside, checked_uses, checked, print_of_desc, within, if_named, face_found, uses_found, symbols_of, object_of, check_of}
 use Rattle.ob_link.specs.Plan.{Entry, Missing, TooLong, Junk, Holds}
-use Rattle.ob_link.specs.Files as objects
 use Rattle.ob_link.specs.Files.{Files, object_file_name, most_bytes, decoded, decoded_as, when_all}
-use Rattle.ob_compile_model.specs.Compiling.{Compiled, texts, object_by, object_bytes, interface_by}
+use Rattle.ob_compile_model.specs.Compiling.{Compiled, texts, object_by, object_bytes}
 use Rattle.ob_parse_grammar.specs.Identifiers.{is_identifier}
-use Rattle.ob_builds.specs.Builds.{Text, Build, IsValid, of, shows_of, name_of, file_of, bytes_of, symbols_of as written_symbols}
+use Rattle.ob_builds.specs.Builds.{Text, Build, of, shows_of, name_of, file_of, symbols_of as written_symbols}
 use Rattle.ob_shell_model.specs.Library.{Library, IsLibrary, IsEntry, Kept, ObjectKept, SymbolKept}
 use Rattle.ob_shell_model.specs.Model.{face_present, uses_present, check_in}
-use Rattle.ob_builds.specs.Written.{IsWritten, BuildsAreWritten}
+use Rattle.ob_builds.specs.Written.{BuildsAreWritten}
 use Rattle.ob_shell_model.specs.OneAge.{ByCheck, AreToldApart}
 use Rattle.law_session.specs.Composing.{ChecksAlike}
 use Rattle.law_builds.proofs.Compiled.{comes, short}

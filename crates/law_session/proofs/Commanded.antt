@@ -1,23 +1,22 @@
 -- A command in worlds that are alike.
-use Rattle.std.proofs.Common.{◌≡◌, ℕ, ◌+◌, List, [], ◌∷◌, ◌++◌, Bool, true, false, length, take, refl, sym, ap, ◌∙◌, subst, Option, Some, None, Result, Ok, Err}
+use Rattle.std.proofs.Common.{◌≡◌, ℕ, List, [], ◌∷◌, ◌++◌, true, length, take, refl, sym, ap, ◌∙◌, subst, Result, Ok, Err}
 use Rattle.std.specs.Prelude.{zero, suc, map}
 use Rattle.ob_tree.specs.declared.print.Print.{Print}
 use Rattle.ob_obj.specs.declared.file.ObjFile.{ObjFile}
-use Rattle.ob_machine.specs.declared.outcome.Outcome.{Outcome}
 use Rattle.ob_link.specs.Plan as load
-use Rattle.ob_link.specs.Files.{Files, file_plan, planned}
+use Rattle.ob_link.specs.Files.{file_plan, planned}
 use Rattle.ob_load.specs.Command.{Ran, ran}
 use Rattle.ob_parse_grammar.specs.Identifiers.{is_identifier}
 use Rattle.ob_words.specs.declared.asked.Settings.{Settings}
-use Rattle.ob_shell_reports.specs.Texts.{report, stops, refused}
+use Rattle.ob_shell_reports.specs.Texts.{report, stops}
 use Rattle.ob_shell_model.specs.Folds.{Part, Answer, part}
 use Rattle.ob_shell_model.specs.Bytes as bytes
 use Rattle.ob_builds.specs.Builds.{Text, Build, file_of}
 use Rattle.ob_shell_model.specs.Library.{Change}
 use Rattle.ob_shell_model.specs.Model.{World, ended_answer, load_answer, command_answer, build_plan}
-use Rattle.ob_builds.specs.Simulated.{outcome_of, joined, ended, IsSameRun, StandFor, ran_over}
+use Rattle.ob_builds.specs.Simulated.{joined, ended, IsSameRun, StandFor, ran_over}
 use Rattle.law_session.specs.Agreeing.{AreSame}
-use Rattle.ob_builds.specs.Afresh.{AreTogether, IsBehind}
+use Rattle.ob_builds.specs.Afresh.{AreTogether}
 use Rattle.ob_shell_model.specs.OneAge.{ByLoad, AreToldApart}
 use Rattle.law_session.specs.Composing.{as_bytes, SameBuilds, SamePlan, PlansAlike}
 use Rattle.law_session.proofs.Core.{Core}

@@ -12,8 +12,7 @@ use Rattle.ob_shell_model.specs.Bytes.{changed}
 use Rattle.ob_shell_model.specs.Session as session
 use Rattle.ob_words.specs.declared.asked.Settings.{Settings}
 use Rattle.ob_shell_model.specs.Library.{Library, IsLibrary, Kept, Change, ObjectBecomes, SymbolBecomes, after_all}
-use Rattle.ob_shell_model.specs.Model.{World, start, answer, written, written_all}
-use Rattle.law_session.specs.Agreeing.{MakeSame}
+use Rattle.ob_shell_model.specs.Model.{start, answer, written, written_all}
 use Rattle.ob_shell_model.specs.Headline.{kind, KeepsOn}
 use Rattle.ob_shell_model.specs.OneAge.{StandsAsCompared}
 use Rattle.ob_builds.specs.Simulated.{AreSettings, Simulation}

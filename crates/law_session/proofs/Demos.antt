@@ -8,7 +8,6 @@ use Rattle.ob_meaning.specs.Commands.{nothing_loaded}
 use Rattle.ob_env.specs.Faces.{Face}
 use Rattle.ob_env_walk.specs.Walk.{symbol_entry}
 use Rattle.ob_demo.specs.Source.{source, module_name}
-use Rattle.ob_link.specs.Plan.{Missing, TooLong, Junk}
 use Rattle.ob_link.specs.Files.{Files}
 use Rattle.ob_compile_model.specs.Compiling as compile
 use Rattle.ob_compile_model.specs.Compiling.{Compiled, compiled, texts, prints}
@@ -18,8 +17,8 @@ use Rattle.ob_shell_model.specs.Folds.{printed_by}
 use Rattle.ob_shell_model.specs.Bytes as bytes
 use Rattle.ob_shell_model.specs.Bytes.{source_name, no_files}
 use Rattle.ob_builds.specs.Builds.{Text}
-use Rattle.ob_shell_model.specs.Library.{empty, with_entry}
-use Rattle.ob_shell_model.specs.Model.{World, Making, start, interface_in, or_empty, made_of, made_one, with_source, and_more, demo_behind, demo_answer, command_answer, compiled_in}
+use Rattle.ob_shell_model.specs.Library.{empty}
+use Rattle.ob_shell_model.specs.Model.{World, Making, start, interface_in, or_empty, made_of, made_one, with_source, and_more, demo_behind, demo_answer, command_answer}
 use Rattle.ob_builds.specs.Written.{BuildsAreWritten}
 use Rattle.law_session.specs.New.{NewIsValid}
 use Rattle.ob_builds.specs.Simulated.{StandFor}

@@ -1,18 +1,18 @@
 -- The builds behind an answer: those that were there before, and those that it made.
-use Rattle.std.proofs.Common.{◌≡◌, ℕ, List, [], ◌∷◌, ◌++◌, Bool, true, false, cond, length, refl, sym, ap, subst, Result, Ok, Err, ⊎_elim, inl, inr}
+use Rattle.std.proofs.Common.{◌≡◌, ℕ, List, [], ◌∷◌, ◌++◌, Bool, true, false, cond, length, sym, ap, subst, Result, Ok, Err, ⊎_elim, inl, inr}
 use Rattle.std.specs.Prelude.{bytes_eq, Contains, ◌⊎◌}
 use Rattle.ob_link.specs.Plan.{Entry, Holds}
 use Rattle.ob_compile_model.specs.Compiling as compile
 use Rattle.ob_compile_model.specs.Compiling.{Compiled}
 use Rattle.ob_make.specs.declared.turns.Turn.{Turn}
 use Rattle.ob_make.specs.declared.turns.Turn.TheVariants as turn
-use Rattle.ob_make.specs.Order.{MakeEnd, order}
+use Rattle.ob_make.specs.Order.{MakeEnd}
 use Rattle.ob_make.specs.Folder.{source_name as source_file}
 use Rattle.ob_builds.specs.Builds.{Text, Build}
 use Rattle.ob_shell_model.specs.Folds.{Answer, made_by}
 use Rattle.ob_shell_model.specs.Library.{Library, IsLibrary, Change, ObjectBecomes, SymbolBecomes, with_entry, after_all}
-use Rattle.ob_shell_model.specs.Making.{by_turn, turn_at, in_turn, behind, and_on, behind_turns, made_so, made_in, make_answer, HasTurn}
-use Rattle.ob_shell_model.specs.Model.{World, becomes, new_build, or_empty, compile_answer, compiled_in, seen_in, maker}
+use Rattle.ob_shell_model.specs.Making.{by_turn, turn_at, in_turn, behind, and_on, behind_turns, made_in, make_answer, HasTurn}
+use Rattle.ob_shell_model.specs.Model.{World, becomes, new_build, or_empty, compile_answer, compiled_in, maker}
 use Rattle.ob_shell_model.specs.Headline.{IsIn}
 use Rattle.law_builds.proofs.Members.{has_left, has_right, has_head, has_none, has_either}
 use Rattle.law_session.specs.New.{NewIsValid}

@@ -1,5 +1,5 @@
 -- A compile and a make in worlds that are alike.
-use Rattle.std.proofs.Common.{◌≡◌, ℕ, List, [], ◌∷◌, ◌++◌, Bool, true, false, cond, length, refl, sym, ap, ◌∙◌, subst, Option, Result, Ok, Err, inl, inr}
+use Rattle.std.proofs.Common.{◌≡◌, ℕ, List, [], ◌∷◌, ◌++◌, Bool, true, false, cond, length, refl, sym, ap, ◌∙◌, subst, Result, Ok, Err, inl, inr}
 use Rattle.std.specs.Prelude.{map, ◌⊎◌}
 use Rattle.ob_tree.specs.declared.print.Print.{Print}
 use Rattle.ob_env_walk.specs.Walk.{symbol_entry}
@@ -14,8 +14,8 @@ use Rattle.ob_make.specs.Stale.{turn_in}
 use Rattle.ob_make.specs.Folder.{seen_in, source_name as source_file, prints as print_marks}
 use Rattle.ob_words.specs.declared.asked.Settings.{Settings}
 use Rattle.ob_shell_reports.specs.Texts.{refused, made_text}
-use Rattle.ob_shell_model.specs.Folds.{Part, Answer, part}
-use Rattle.ob_shell_model.specs.Making.{turn_at, by_turn, in_turn, behind, and_on, behind_turns, made_in, make_answer, HasTurn}
+use Rattle.ob_shell_model.specs.Folds.{Answer, part}
+use Rattle.ob_shell_model.specs.Making.{turn_at, by_turn, in_turn, behind, and_on, behind_turns, made_in, make_answer}
 use Rattle.ob_shell_model.specs.Bytes as bytes
 use Rattle.ob_shell_model.specs.Bytes.{files_of, counted}
 use Rattle.ob_builds.specs.Builds.{Text}

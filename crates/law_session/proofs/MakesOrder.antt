@@ -1,6 +1,6 @@
 -- The order of a make, where the needs of all modules that it meets are the same.
-use Rattle.std.proofs.Common.{◌≡◌, ℕ, List, [], ◌∷◌, ◌++◌, Bool, true, false, cond, refl, sym, ap, ◌∙◌, subst, None, Result, Ok, Err}
-use Rattle.std.specs.Prelude.{zero, suc, nat_le, length}
+use Rattle.std.proofs.Common.{◌≡◌, ℕ, List, [], ◌∷◌, ◌++◌, Bool, true, false, cond, refl, ap, ◌∙◌, None, Result, Ok, Err}
+use Rattle.std.specs.Prelude.{zero, suc}
 use Rattle.ob_link.specs.Walk.{has, and_then, all_in_turn, leaves, enters, visit}
 use Rattle.ob_make.specs.Seen.{Seen, needs}
 use Rattle.ob_make.specs.Order.{MakeEnd, Cycle, newest, met_if, steps, order}

@@ -16,15 +16,15 @@ use Rattle.ob_cmp.specs.declared.verdict.Stale.{Stale}
 use Rattle.ob_cmp.specs.Check as check
 use Rattle.ob_cmp.specs.Check.{Present, NotThere, Refused, There, stale_if, print_of_desc, symbols_of}
 use Rattle.ob_link.specs.Plan.{Entry, Missing, TooLong, Junk, Holds}
-use Rattle.ob_link.specs.Files.{Files, object_file_name}
+use Rattle.ob_link.specs.Files.{object_file_name}
 use Rattle.ob_compile_model.specs.Compiling.{Compiled, texts, imported, most_source}
 use Rattle.ob_parse_grammar.specs.Identifiers.{is_identifier}
 use Rattle.ob_parse_grammar.specs.TextReading.{NoModule, reading}
 use Rattle.ob_make.specs.Order.{order}
-use Rattle.ob_make.specs.Seen.{Has, Source, NoSource, Imports, Seen, is_needed, object_needs, symbol_needs, source_needs, needs}
+use Rattle.ob_make.specs.Seen.{Has, NoSource, Imports, is_needed, object_needs, symbol_needs, source_needs, needs}
 use Rattle.ob_make.specs.Stale.{is_met, meets, fails, is_there, stale_with, is_stale, is_sourceless, is_missing, is_passed, turn_of, turn_in}
 use Rattle.ob_make.specs.Folder.{has_in, has_found, has_of, read_as, source_of, source_name, seen_in, prints}
-use Rattle.ob_builds.specs.Builds.{Text, Build, IsValid, IsSpelled, of, shows_of, file_of}
+use Rattle.ob_builds.specs.Builds.{Text, Build, IsSpelled, of, shows_of, file_of}
 use Rattle.ob_builds.specs.Written.{BuildsAreWritten}
 use Rattle.ob_shell_model.specs.Library.{Library, IsLibrary, IsEntry, Kept}
 use Rattle.ob_shell_model.specs.Model as model

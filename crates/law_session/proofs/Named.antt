@@ -1,11 +1,11 @@
 -- The names in a line of a script.
-use Rattle.std.proofs.Common.{◌≡◌, ℕ, ◌+◌, ◌-◌, ◌*◌, ◌<◌, ◌≤◌, List, [], ◌∷◌, Bool, true, false, cond, refl, sym, ap, ◌∙◌, subst, codes, Option, Some, None, position, take, drop, bytes_eq, arith, ⊎_elim, inl, inr}
+use Rattle.std.proofs.Common.{◌≡◌, ℕ, ◌+◌, ◌-◌, ◌*◌, ◌<◌, ◌≤◌, List, [], ◌∷◌, Bool, true, false, cond, refl, ap, ◌∙◌, codes, Option, Some, None, position, take, drop, bytes_eq, arith, ⊎_elim}
 use Rattle.std.specs.Prelude.{zero, suc, nat_le, ◌&&◌, ◌⊎◌}
 use Rattle.std.specs.Fmt.{digits}
 use Rattle.std.proofs.lemmas.Bool.{leb-true, and_parts}
 use Rattle.ob_demo.specs.Source.{module_name}
 use Rattle.ob_parse_grammar.specs.Identifiers.{is_identifier}
-use Rattle.ob_shell_lines.specs.Lines.{Line, Compile, Compare, Check, Make, Show, Demo, Command, Unknown, Nothing, when, demo_line, count_of, number_if, up_to_sixty, is_first_digit, is_digit, dotted, is_dot, line_of_two, line_of_three, line_of_words, line_of, words_of, without_return, is_file_name}
+use Rattle.ob_shell_lines.specs.Lines.{Line, Compile, Compare, Check, Make, Show, Demo, Command, Unknown, Nothing, when, demo_line, count_of, number_if, is_first_digit, is_digit, dotted, is_dot, line_of_two, line_of_three, line_of_words, line_of, words_of, without_return, is_file_name}
 
 -- names of modules and commands are identifiers, and a demo has at most 60 modules
 abbrev pub IsNamed : Line → Type 0

@@ -1,6 +1,6 @@
 -- Lines that compile nothing, over a library of one age.
 use Rattle.std.proofs.Common.{◌≡◌, ℕ, ◌+◌, ◌≤◌, List, [], ◌∷◌, ◌++◌, length, refl, sym, subst, arith, Option, Some, Result, Ok, Err, ⊎_elim, inl, inr}
-use Rattle.std.specs.Prelude.{suc, map, Contains, ◌⊎◌}
+use Rattle.std.specs.Prelude.{suc, map, Contains}
 use Rattle.std.specs.List.{AllByRecursion}
 use Rattle.ob_env.specs.Faces.{Face, text_in}
 use Rattle.ob_compile_model.specs.Compiling.{imported}

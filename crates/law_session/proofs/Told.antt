@@ -1,6 +1,6 @@
 -- Where no two texts of the builds spoken of have one print, prints tell apart all that a session compares.
-use Rattle.std.proofs.Common.{◌≡◌, ℕ, ◌+◌, ◌≤◌, List, [], ◌∷◌, ◌++◌, true, false, length, refl, sym, ap, subst, Option, Some, None, Result, Ok, Err, ⊎_elim, inl, inr, cond, Bool, arith}
-use Rattle.std.specs.Prelude.{zero, suc, map, bytes_eq, Contains, ◌⊎◌}
+use Rattle.std.proofs.Common.{◌≡◌, ℕ, ◌+◌, ◌≤◌, List, [], ◌∷◌, ◌++◌, true, false, length, refl, sym, subst, Option, Some, None, Result, Ok, Err, ⊎_elim, inl, inr, Bool, arith}
+use Rattle.std.specs.Prelude.{zero, suc, map, Contains, ◌⊎◌}
 use Rattle.ob_env.specs.Faces.{Face}
 use Rattle.ob_link.specs.Plan as load
 use Rattle.ob_link.specs.Plan.{Entry, Holds}
@@ -148,9 +148,9 @@ module _ (valid : NewIsValid) (s : Settings) (P : Text → Type 0) where
   in_make v n l ls h m e kept found c =
       let library : IsLibrary c.1.library = library_at valid m v c.0 c.1 h.library c.2 in
       let all : AreOf P c.1.library = λ b i t x. ⊎_elim
-          (λ (j : IsThere v b). h.texts b j t x)
-          (λ (k : IsMadeIn (make_answer maker m v) b). h.to_come b (now v n l ls k.0 b (subst (λ z. Contains (made_by (answer s v n z).parts) (ObjectBecomes k.0 b)) (sym e) k.1)) t x)
-          (at_turn m v c.0 c.1 c.2 b (inl i)) in
+      (λ (j : IsThere v b). h.texts b j t x)
+      (λ (k : IsMadeIn (make_answer maker m v) b). h.to_come b (now v n l ls k.0 b (subst (λ z. Contains (made_by (answer s v n z).parts) (ObjectBecomes k.0 b)) (sym e) k.1)) t x)
+      (at_turn m v c.0 c.1 c.2 b (inl i)) in
       ⊎_elim
       (λ (d : ByCheck c.1.library c.0 kept found). in_check P c.1.library library all c.0 kept found d)
       (λ (d : (turn_at maker m c.1 c.0 ≡ turn.Compiles) × ByCompile c.1.library (c.1.files (source_file c.0)) kept found). in_compile P c.1.library library all (c.1.files (source_file c.0)) kept found d.1)

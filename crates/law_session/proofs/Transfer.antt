@@ -1,11 +1,10 @@
 -- Sessions that agree line by line end alike.
-use Rattle.std.proofs.Common.{◌≡◌, ℕ, ◌+◌, List, [], ◌∷◌, ◌++◌, length, take, Bool, true, false, refl, sym, ap, ◌∙◌, subst, arith, ◌≤◌}
+use Rattle.std.proofs.Common.{◌≡◌, ℕ, ◌+◌, List, [], ◌∷◌, ◌++◌, length, Bool, false, refl, sym, ap, ◌∙◌, subst, arith}
 use Rattle.std.specs.Prelude.{◌||◌, map, cond}
 use Rattle.std.proofs.lemmas.List.{append-nil}
-use Rattle.ob_io.specs.Io.{SameFiles}
 use Rattle.ob_link.specs.Files.{Files}
 use Rattle.ob_shell_lines.specs.Lines.{line_of, lines_of, exceeds, done_lines}
-use Rattle.ob_shell_model.specs.Folds.{Answer, Answers, printed_by, made_by, text_from, refused_from, world_from, changes_from, session_text, session_status, session_changes}
+use Rattle.ob_shell_model.specs.Folds.{Answers, printed_by, made_by, text_from, refused_from, world_from, changes_from, session_changes}
 use Rattle.ob_shell_model.specs.Session.{Kind, Ends, IsCut, next_of}
 use Rattle.law_session.specs.Agreeing.{AreSame, Agree, MakeSame}
 use Rattle.law_session.proofs.Parts.{map_append, printed_same, made_same, parts_cut}

@@ -1,9 +1,8 @@
 -- When two kinds of sessions agree line by line.
-use Rattle.std.specs.Prelude.{◌≡◌, ℕ, ◌+◌, List, [], ◌∷◌, ◌++◌, Bool, map}
+use Rattle.std.specs.Prelude.{◌≡◌, ℕ, ◌+◌, List, ◌∷◌, map}
 use Rattle.ob_link.specs.Files.{Files}
 use Rattle.ob_shell_lines.specs.Lines.{line_of}
 use Rattle.ob_shell_model.specs.Folds.{Part, Answer, Answers}
-use Rattle.ob_shell_model.specs.Session.{Kind}
 
 -- a part with the same text, and with the changes of another kind
 abbrev pub part_as : {C D : Type 0} → (D → C) → Part D → Part C
