@@ -41,12 +41,14 @@ use Rattle.law_lists.proofs.Lists.{bytes_same}
 
 -- WHAT IS FOUND
 
+-- the same is there, in another form
 abbrev pub present_as : {X Y : Type 0} → (X → Y) → Present X → Present Y
 present_as f NotThere = NotThere
 present_as f check.TooLong = check.TooLong
 present_as f Refused = Refused
 present_as f (There x) = There (f x)
 
+-- a use with the print of its text
 abbrev pub as_print : Wanted Text → Wanted Print
 as_print w = record { object = w.object; aspect = w.aspect; kept = print_from w.kept }
 

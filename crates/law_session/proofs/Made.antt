@@ -43,9 +43,11 @@ in_becomes l text d x i =
 
 -- BEHIND AN ANSWER
 
+-- the library of a world has the build, or it is loaded
 abbrev pub IsThere : World → Build → Type 0
 IsThere v b = IsIn v.library b ⊎ Contains v.loaded b
 
+-- an object file becomes the build
 abbrev pub IsMadeIn : Answer World Change → Build → Type 0
 IsMadeIn a b = (name : List ℕ) × Contains (made_by a.parts) (ObjectBecomes name b)
 
@@ -63,6 +65,7 @@ by_compile v name text (Ok c) b (inl i) = ⊎_elim
 
 -- ---- answers behind one another
 
+-- an answer, and more behind it unless it was refused
 abbrev After : Bool → Answer World Change → (World → Answer World Change) → Answer World Change
 After t a more = cond t a (behind a.parts (more a.world))
 

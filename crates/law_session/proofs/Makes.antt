@@ -56,6 +56,7 @@ compile_so s compiles written valid w v name h told =
 
 -- ONE BEHIND THE OTHER
 
+-- answers of the byte session, and of the meaning
 abbrev Ours : Type 0
 Ours = Answer bytes.World bytes.Change
 

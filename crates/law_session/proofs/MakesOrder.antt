@@ -7,9 +7,11 @@ use Rattle.ob_make.specs.Order.{MakeEnd, Cycle, newest, met_if, steps, order}
 use Rattle.ob_parse_grammar.specs.Identifiers.{is_identifier}
 use Rattle.law_session.specs.Named.{AreIdentifiers}
 
+-- modules in their order, or why there is none
 abbrev Ordered : Type 0
 Ordered = Result (List (List ℕ)) MakeEnd
 
+-- what visits of modules do
 abbrev Visits : Type 0
 Visits = List ℕ → List (List ℕ) → Ordered
 

@@ -41,6 +41,7 @@ use Rattle.law_session.proofs.Spelled.{imports_named, uses_named}
 
 -- ---- object files
 
+-- with prints for texts
 abbrev has_printed : Has Text → Has Print
 has_printed h = record { imports = h.imports; uses = map as_print h.uses }
 
