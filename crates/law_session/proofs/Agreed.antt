@@ -1,74 +1,53 @@
 -- Each line agrees.
-use Rattle.std.proofs.Common.{◌≡◌, ℕ, ◌+◌, List, [], ◌∷◌, ◌++◌, Bool, true, false, refl, sym, ap, ◌∙◌, subst, Option, None, Result, Ok, Err, ⊎_elim}
-use Rattle.std.specs.Prelude.{map, ◌⊎◌}
-use Rattle.ob_tree.specs.declared.print.Print.{Print}
-use Rattle.ob_env_walk.specs.Walk.{symbol_name, symbol_entry}
-use Rattle.ob_cmp.specs.Check.{Checked, check_of, check_text, is_refused}
+use Rattle.std.proofs.Common.{◌≡◌, ℕ, ◌+◌, List, [], ◌∷◌, refl, ap, ◌∙◌}
+use Rattle.ob_env_walk.specs.Walk.{symbol_name}
+use Rattle.ob_cmp.specs.Check.{check_of, check_text, is_refused}
 use Rattle.ob_link.specs.Files.{Files}
-use Rattle.ob_compile_model.specs.Compiling as compile
-use Rattle.ob_compile_model.specs.Compiling.{Compiled, compiled, texts, prints}
-use Rattle.ob_parse_grammar.specs.Identifiers.{is_identifier}
-use Rattle.ob_shell_lines.specs.Lines.{Line, Compile, Compare, Check, Show, Demo, Command, Unknown, Nothing, line_of}
+use Rattle.ob_shell_lines.specs.Lines.{Line, Compile, Compare, Check, Make, Show, Demo, Command, Unknown, Nothing, line_of}
 use Rattle.ob_words.specs.declared.asked.Settings.{Settings}
-use Rattle.ob_shell_reports.specs.Texts.{refused}
-use Rattle.ob_shell_model.specs.Folds.{Answer, world_from}
+use Rattle.ob_shell_model.specs.Folds.{world_from}
 use Rattle.ob_shell_model.specs.Files.{sym_file}
 use Rattle.ob_shell_model.specs.Bytes as bytes
 use Rattle.ob_shell_model.specs.Bytes.{compared, shown}
 use Rattle.ob_builds.specs.Builds.{Text}
-use Rattle.ob_shell_model.specs.Library.{Library, Change}
-use Rattle.ob_shell_model.specs.Model.{World, answer, interface_in, becomes, or_empty, compile_answer, check_in}
-use Rattle.law_session.specs.Agreeing.{AreSame}
+use Rattle.ob_shell_model.specs.Model.{World, answer, check_in}
 use Rattle.ob_builds.specs.Written.{BuildsAreWritten}
 use Rattle.law_session.specs.New.{NewIsValid}
 use Rattle.ob_shell_model.specs.OneAge.{ByLine, IsComparedFrom, AreToldApart}
-use Rattle.law_session.specs.Composing.{as_bytes, Alike, CompilesAlike, PlansAlike, ChecksAlike, LinesAgreeAll}
+use Rattle.law_session.specs.Composing.{CompilesAlike, PlansAlike, ChecksAlike, LinesAgreeAll}
 use Rattle.law_session.proofs.Named.{IsNamed, named}
-use Rattle.law_session.proofs.Core.{Core, CompilesSo, compiles_so}
-use Rattle.law_session.proofs.Commanded.{Alright, commands_so}
+use Rattle.law_session.proofs.Core.{Core}
+use Rattle.law_session.proofs.Commanded.{Alright, one_part, commands_so}
+use Rattle.law_session.proofs.Makes.{compile_so, make_so}
 use Rattle.law_session.proofs.Demos.{StandsFirst, demos_so}
 use Rattle.law_session.proofs.Checked.{checks_so}
 use Rattle.law_session.proofs.New.{new_is_valid}
 
-compiled_so : (s : Settings) (w : bytes.World) (v : World) (name text : List ℕ) (r : Result (Compiled Print) (compile.Refusal Print)) (q : Result (Compiled Text) (compile.Refusal Text)) → Core s w v → CompilesSo s w v text r q → Alright s (bytes.compile_answer w name r) (compile_answer v name text q)
-compiled_so s w v name text (Ok c) (Ok d) h k = record { same = record { text = k.counts; opening = refl; refused = refl; changes = k.changes }; core = k.core }
-compiled_so s w v name text (Err r) (Err q) h k = record { same = record { text = ap (refused name) k; opening = refl; refused = refl; changes = refl }; core = h }
-compiled_so s w v name text (Ok c) (Err q) h k = absurd k
-compiled_so s w v name text (Err r) (Ok d) h k = absurd k
-
 module _ (s : Settings) (compiles : CompilesAlike) (plans : PlansAlike) (checks : ChecksAlike) (written : BuildsAreWritten) (valid : NewIsValid) (first : StandsFirst s) where
   by_line : (w : bytes.World) (v : World) (n : ℕ) (line : Line) → IsNamed line → AreToldApart (ByLine v line) → Core s w v → Alright s (bytes.answer s w n line) (answer s v n line)
-  by_line w v n (Compile name) named told h =
-      let file = v.files name in
-      let q = compiled texts (interface_in v.library) file in
-      compiled_so s w v name (or_empty file) (compiled prints (symbol_entry w.files) (w.files name)) q h
-      (subst (λ x. CompilesSo s w v (or_empty file) (compiled prints (symbol_entry w.files) x) q) (sym (ap (λ (f : Files). f name) h.files))
-      (compiles_so s w v file compiles written valid h told))
+  by_line w v n (Compile name) named told h = compile_so s compiles written valid w v name h told
   by_line w v n (Compare old new) named told h = record {
     same = record {
-      text = ap (λ (f : Files). (compared old new (sym_file f old) (sym_file f new)).text) h.files;
-      opening = refl;
+      parts = ap (λ (f : Files). one_part (compared old new (sym_file f old) (sym_file f new)).text) h.files;
       refused = ap (λ (f : Files). (compared old new (sym_file f old) (sym_file f new)).refused) h.files;
-      changes = refl;
     };
     core = h;
   }
   by_line w v n (Check m) named told h =
       let is : check_of w.files m ≡ check_in v.library m = ap (λ (f : Files). check_of f m) h.files ∙ checks v.files v.library m named h.library h.kept told in
-      record { same = record { text = ap (check_text m) is; opening = refl; refused = ap is_refused is; changes = refl }; core = h }
+      record { same = record { parts = ap (λ c. one_part (check_text m c)) is; refused = ap is_refused is }; core = h }
+  by_line w v n (Make m) named told h = make_so s compiles written valid w v m named h told
   by_line w v n (Show m) named told h = record {
     same = record {
-      text = ap (λ (f : Files). (shown (symbol_name m) (sym_file f (symbol_name m))).text) h.files;
-      opening = refl;
+      parts = ap (λ (f : Files). one_part (shown (symbol_name m) (sym_file f (symbol_name m))).text) h.files;
       refused = ap (λ (f : Files). (shown (symbol_name m) (sym_file f (symbol_name m))).refused) h.files;
-      changes = refl;
     };
     core = h;
   }
   by_line w v n (Demo k) named told h = demos_so s compiles plans written valid first w v k named h told
   by_line w v n (Command m name) named told h = commands_so s w v m name plans named.0 named.1 h told
-  by_line w v n Unknown named told h = record { same = record { text = refl; opening = refl; refused = refl; changes = refl }; core = h }
-  by_line w v n Nothing named told h = record { same = record { text = refl; opening = refl; refused = refl; changes = refl }; core = h }
+  by_line w v n Unknown named told h = record { same = record { parts = refl; refused = refl }; core = h }
+  by_line w v n Nothing named told h = record { same = record { parts = refl; refused = refl }; core = h }
 
 -- what the first of some lines compares, and what the ones behind it do
 first_of : (s : Settings) (v : World) (n : ℕ) (l : List ℕ) (ls : List (List ℕ)) (kept found : Text) → ByLine v (line_of l) kept found → IsComparedFrom s v n (l ∷ ls) kept found

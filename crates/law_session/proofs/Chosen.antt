@@ -1,11 +1,11 @@
 -- The settings that words say keep their limits.
-use Rattle.std.proofs.Common.{◌≡◌, ℕ, ◌≤◌, List, [], ◌∷◌, Bool, true, false, cond, refl, sym, ap, ◌∙◌, subst, arith, Option, Some, None}
+use Rattle.std.proofs.Common.{◌≡◌, ℕ, ◌≤◌, List, [], ◌∷◌, Bool, true, false, cond, refl, ap, subst, arith, Option, Some, None}
 use Rattle.std.specs.Prelude.{nat_le, ◌&&◌, codes}
 use Rattle.std.proofs.lemmas.Bool.{false≢true, leb-true, and_parts}
 use Rattle.clap.specs.Words.{Row, Text, Kinds, first_of, fault_of, matches_of}
 use Rattle.ob_words.specs.declared.asked.Settings.{Settings}
 use Rattle.ob_words.specs.Numbers.{is_number, value_from, up_to, number_of}
-use Rattle.ob_words.specs.Settings.{oberon, number_or, chosen, chosen_in, taken, settings_of}
+use Rattle.ob_words.specs.Settings.{oberon, number_or, chosen, taken, settings_of}
 use Rattle.ob_builds.specs.Simulated.{AreSettings}
 
 abbrev or_zero : Option ℕ → ℕ

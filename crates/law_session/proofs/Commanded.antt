@@ -1,23 +1,22 @@
 -- A command in worlds that are alike.
-use Rattle.std.proofs.Common.{◌≡◌, ℕ, ◌+◌, List, [], ◌∷◌, ◌++◌, Bool, true, false, length, take, refl, sym, ap, ◌∙◌, subst, Option, Some, None, Result, Ok, Err}
+use Rattle.std.proofs.Common.{◌≡◌, ℕ, List, [], ◌∷◌, ◌++◌, true, length, take, refl, sym, ap, ◌∙◌, subst, Result, Ok, Err}
 use Rattle.std.specs.Prelude.{zero, suc, map}
 use Rattle.ob_tree.specs.declared.print.Print.{Print}
 use Rattle.ob_obj.specs.declared.file.ObjFile.{ObjFile}
-use Rattle.ob_machine.specs.declared.outcome.Outcome.{Outcome}
 use Rattle.ob_link.specs.Plan as load
-use Rattle.ob_link.specs.Files.{Files, file_plan, planned}
+use Rattle.ob_link.specs.Files.{file_plan, planned}
 use Rattle.ob_load.specs.Command.{Ran, ran}
 use Rattle.ob_parse_grammar.specs.Identifiers.{is_identifier}
 use Rattle.ob_words.specs.declared.asked.Settings.{Settings}
-use Rattle.ob_shell_reports.specs.Texts.{report, stops, refused}
-use Rattle.ob_shell_model.specs.Folds.{Answer}
+use Rattle.ob_shell_reports.specs.Texts.{report, stops}
+use Rattle.ob_shell_model.specs.Folds.{Part, Answer, part}
 use Rattle.ob_shell_model.specs.Bytes as bytes
 use Rattle.ob_builds.specs.Builds.{Text, Build, file_of}
 use Rattle.ob_shell_model.specs.Library.{Change}
 use Rattle.ob_shell_model.specs.Model.{World, ended_answer, load_answer, command_answer, build_plan}
-use Rattle.ob_builds.specs.Simulated.{outcome_of, joined, ended, IsSameRun, StandFor, ran_over}
+use Rattle.ob_builds.specs.Simulated.{joined, ended, IsSameRun, StandFor, ran_over}
 use Rattle.law_session.specs.Agreeing.{AreSame}
-use Rattle.ob_builds.specs.Afresh.{AreTogether, IsBehind}
+use Rattle.ob_builds.specs.Afresh.{AreTogether}
 use Rattle.ob_shell_model.specs.OneAge.{ByLoad, AreToldApart}
 use Rattle.law_session.specs.Composing.{as_bytes, SameBuilds, SamePlan, PlansAlike}
 use Rattle.law_session.proofs.Core.{Core}
@@ -28,6 +27,10 @@ first_together zero before [] t = tt
 first_together zero before (b ∷ bs) t = tt
 first_together (suc n) before [] t = tt
 first_together (suc n) before (b ∷ bs) t = (t.0, first_together n (before ++ b ∷ []) bs t.1)
+
+-- one part that changes nothing
+abbrev pub one_part : List ℕ → List (Part bytes.Change)
+one_part text = part [] text
 
 -- two answers are the same, and the worlds behind them are alike
 pub record Alright (s : Settings) (a : Answer bytes.World bytes.Change) (b : Answer World Change) : Type 0 where
@@ -41,10 +44,8 @@ ran_so s w v m name files bs h k r e =
     let first = (run 0).0 in
     record {
       same = record {
-        text = ap (λ t. t ++ report r.outcome) first.text ∙ ap (λ o. end.out ++ report o) first.outcome;
-        opening = refl;
+        parts = ap one_part (ap (λ t. t ++ report r.outcome) first.text ∙ ap (λ o. end.out ++ report o) first.outcome);
         refused = ap stops first.outcome;
-        changes = refl;
       };
       core = record {
         files = h.files;
@@ -60,7 +61,7 @@ plan_so : (s : Settings) (w : bytes.World) (v : World) (m name : List ℕ) (r : 
 plan_so s w v m name (Ok files) (Ok bs) h k =
     ran_so s w v m name files bs h k (ran w.loaded w.words w.heap (planned w.loaded m name files) s.turns)
     (ap (λ fs. ran fs w.words w.heap (planned fs m name (map file_of bs)) s.turns) (sym h.loaded) ∙ ap (λ fs. ran w.loaded w.words w.heap (planned w.loaded m name fs) s.turns) (sym k.are))
-plan_so s w v m name (Err r) (Err q) h k = record { same = record { text = k; opening = refl; refused = refl; changes = refl }; core = h }
+plan_so s w v m name (Err r) (Err q) h k = record { same = record { parts = ap one_part k; refused = refl }; core = h }
 plan_so s w v m name (Ok files) (Err q) h k = absurd k
 plan_so s w v m name (Err r) (Ok bs) h k = absurd k
 

@@ -1,19 +1,18 @@
 -- The headline of a session whose lines agree.
 use Rattle.std.proofs.Common.{◌≡◌, ℕ, ◌+◌, ◌≤◌, List, [], ◌∷◌, ◌++◌, Bool, true, false, length, take, refl, sym, ap, ◌∙◌, subst, append_assoc, arith, ⊎_elim, inl, inr}
 use Rattle.std.proofs.lemmas.Bool.{false≢true}
-use Rattle.std.specs.Prelude.{map, zero, suc, ◌⊎◌}
+use Rattle.std.specs.Prelude.{map, ◌⊎◌}
 use Rattle.ob_io.specs.Io.{SameFiles}
 use Rattle.ob_link.specs.Files.{Files}
 use Rattle.ob_shell_lines.specs.Lines.{done_lines, line_of}
-use Rattle.ob_shell_model.specs.Folds.{Answers, world_from, changes_from, session_changes}
-use Rattle.ob_shell_model.specs.Session.{IsCut, next_of, is_whole}
+use Rattle.ob_shell_model.specs.Folds.{Answers, made_by, world_from, changes_from, session_changes}
+use Rattle.ob_shell_model.specs.Session.{IsCut, next_of, changes_up_to, is_whole}
 use Rattle.ob_shell_model.specs.Bytes as bytes
 use Rattle.ob_shell_model.specs.Bytes.{changed}
 use Rattle.ob_shell_model.specs.Session as session
 use Rattle.ob_words.specs.declared.asked.Settings.{Settings}
 use Rattle.ob_shell_model.specs.Library.{Library, IsLibrary, Kept, Change, ObjectBecomes, SymbolBecomes, after_all}
-use Rattle.ob_shell_model.specs.Model.{World, start, answer, written, written_all}
-use Rattle.law_session.specs.Agreeing.{MakeSame}
+use Rattle.ob_shell_model.specs.Model.{start, answer, written, written_all}
 use Rattle.ob_shell_model.specs.Headline.{kind, KeepsOn}
 use Rattle.ob_shell_model.specs.OneAge.{StandsAsCompared}
 use Rattle.ob_builds.specs.Simulated.{AreSettings, Simulation}
@@ -21,6 +20,7 @@ use Rattle.law_session.specs.Composing.{as_bytes, Alike, Composes, HeadlineFollo
 use Rattle.law_session.specs.New.{NewIsValid}
 use Rattle.law_session.proofs.Keeping.{all_stay}
 use Rattle.law_session.proofs.Libraries.{library_stays, front_good, lines_good}
+use Rattle.law_session.proofs.Parts.{front_behind, parts_front}
 use Rattle.law_session.proofs.Transfer.{ends_alike, related_behind}
 
 make_same : (ds : List Change) (files : Files) → changed files (map as_bytes ds) ≡ written_all files ds
@@ -30,30 +30,21 @@ make_same (SymbolBecomes name b ∷ ds) files = make_same ds (written files (Sym
 
 -- THE CHANGES OF A SESSION THAT WAS CUT SHORT
 
-front_of : {A : Type 0} (p x y : List A) (k : ℕ) → (j : ℕ) × (take j (p ++ (x ++ y)) ≡ p ++ take k x)
-front_of [] [] [] zero = (0, refl)
-front_of [] [] [] (suc k) = (0, refl)
-front_of [] [] (a ∷ y) zero = (0, refl)
-front_of [] [] (a ∷ y) (suc k) = (0, refl)
-front_of [] (a ∷ x) y zero = (0, refl)
-front_of [] (a ∷ x) y (suc k) = let r = front_of [] x y k in (suc r.0, ap (λ t. a ∷ t) r.1)
-front_of (a ∷ p) x y k = let r = front_of p x y k in (suc r.0, ap (λ t. a ∷ t) r.1)
-
-split_none : {W C : Type 0} (answer : Answers W C) (w : W) (n : ℕ) (rest : List (List ℕ)) → (y : List C) × (changes_from answer w n rest ≡ changes_from answer w n [] ++ ((next_of answer (world_from answer w n []) n rest).changes ++ y))
+split_none : {W C : Type 0} (answer : Answers W C) (w : W) (n : ℕ) (rest : List (List ℕ)) → (y : List C) × (changes_from answer w n rest ≡ changes_from answer w n [] ++ (made_by (next_of answer (world_from answer w n []) n rest).parts ++ y))
 unfolding changes_from world_from
 split_none answer w n [] = ([], refl)
 split_none answer w n (l ∷ ls) = (changes_from answer (answer w n (line_of l)).world (n + 1) ls, refl)
 
-split_more : {W C : Type 0} (answer : Answers W C) (w : W) (n m : ℕ) (l : List ℕ) (past rest : List (List ℕ)) → (y : List C) × (changes_from answer (answer w n (line_of l)).world (n + 1) (past ++ rest) ≡ changes_from answer (answer w n (line_of l)).world (n + 1) past ++ ((next_of answer (world_from answer (answer w n (line_of l)).world (n + 1) past) m rest).changes ++ y)) → (y : List C) × (changes_from answer w n ((l ∷ past) ++ rest) ≡ changes_from answer w n (l ∷ past) ++ ((next_of answer (world_from answer w n (l ∷ past)) m rest).changes ++ y))
+split_more : {W C : Type 0} (answer : Answers W C) (w : W) (n m : ℕ) (l : List ℕ) (past rest : List (List ℕ)) → (y : List C) × (changes_from answer (answer w n (line_of l)).world (n + 1) (past ++ rest) ≡ changes_from answer (answer w n (line_of l)).world (n + 1) past ++ (made_by (next_of answer (world_from answer (answer w n (line_of l)).world (n + 1) past) m rest).parts ++ y)) → (y : List C) × (changes_from answer w n ((l ∷ past) ++ rest) ≡ changes_from answer w n (l ∷ past) ++ (made_by (next_of answer (world_from answer w n (l ∷ past)) m rest).parts ++ y))
 unfolding changes_from world_from
 split_more answer w n m l past rest h =
     let a = answer w n (line_of l) in
-    (h.0, ap (λ t. a.changes ++ t) h.1 ∙ sym (append_assoc a.changes (changes_from answer a.world (n + 1) past) ((next_of answer (world_from answer a.world (n + 1) past) m rest).changes ++ h.0)))
+    (h.0, ap (λ t. made_by a.parts ++ t) h.1 ∙ sym (append_assoc (made_by a.parts) (changes_from answer a.world (n + 1) past) (made_by (next_of answer (world_from answer a.world (n + 1) past) m rest).parts ++ h.0)))
 
-split_changes : {W C : Type 0} (answer : Answers W C) (past rest : List (List ℕ)) (w : W) (n m : ℕ) → n + length past ≡ m → (y : List C) × (changes_from answer w n (past ++ rest) ≡ changes_from answer w n past ++ ((next_of answer (world_from answer w n past) m rest).changes ++ y))
+split_changes : {W C : Type 0} (answer : Answers W C) (past rest : List (List ℕ)) (w : W) (n m : ℕ) → n + length past ≡ m → (y : List C) × (changes_from answer w n (past ++ rest) ≡ changes_from answer w n past ++ (made_by (next_of answer (world_from answer w n past) m rest).parts ++ y))
 split_changes {W} {C} answer [] rest w n m e =
     let same : n ≡ m = omega (arith, e) in
-    subst (λ k. (y : List C) × (changes_from answer w n rest ≡ changes_from answer w n [] ++ ((next_of answer (world_from answer w n []) k rest).changes ++ y))) same (split_none answer w n rest)
+    subst (λ k. (y : List C) × (changes_from answer w n rest ≡ changes_from answer w n [] ++ (made_by (next_of answer (world_from answer w n []) k rest).parts ++ y))) same (split_none answer w n rest)
 split_changes answer (l ∷ past) rest w n m e = split_more answer w n m l past rest (split_changes answer past rest (answer w n (line_of l)).world (n + 1) m (omega (arith, e)))
 
 take_all : {A : Type 0} (xs : List A) → take (length xs) xs ≡ xs
@@ -62,7 +53,7 @@ take_all (x ∷ xs) = ap (λ r. x ∷ r) (take_all xs)
 
 -- these changes are those of the lines that a session did, and the first ones of the line that was cut
 abbrev AreCut : Settings → List ℕ → List ℕ → Files → Files → Library → List ℕ → ℕ → ℕ → Type 0
-AreCut s before now old new l script status made = (c : IsCut (kind s old l) before now old new (done_lines script) status) × (take made (session_changes (answer s) (start old l) script) ≡ changes_from (answer s) (start old l) 1 c.past ++ take c.made (next_of (answer s) (world_from (answer s) (start old l) 1 c.past) (1 + length c.past) c.rest).changes)
+AreCut s before now old new l script status made = (c : IsCut (kind s old l) before now old new (done_lines script) status) × (take made (session_changes (answer s) (start old l) script) ≡ changes_from (answer s) (start old l) 1 c.past ++ changes_up_to (next_of (answer s) (world_from (answer s) (start old l) 1 c.past) (1 + length c.past) c.rest).parts c.cut.whole c.cut.made)
 
 keeps_so : NewIsValid → (s : Settings) (before now : List ℕ) (old new : Files) (l : Library) (script : List ℕ) (status made : ℕ) → IsLibrary l → Kept old l → SameFiles new (written_all old (take made (session_changes (answer s) (start old l) script))) →
     (is_whole status ≡ true → length (session_changes (answer s) (start old l) script) ≤ made) → (is_whole status ≡ false → AreCut s before now old new l script status made) → KeepsOn s before now old new l script status
@@ -82,9 +73,12 @@ keeps_cut valid s before now old new l script status h k w c =
     let first = start old l in
     let next = next_of (answer s) (world_from (answer s) first 1 c.past) (1 + length c.past) c.rest in
     let y = split_changes (answer s) c.past c.rest first 1 (1 + length c.past) refl in
-    let j = front_of (changes_from (answer s) first 1 c.past) next.changes y.0 c.made in
-    let e : take j.0 (session_changes (answer s) first script) ≡ changes_from (answer s) first 1 c.past ++ take c.made next.changes = ap (λ x. take j.0 (changes_from (answer s) first 1 x)) c.split ∙ ap (take j.0) y.1 ∙ j.1 in
-    keeps_so valid s before now old new l script status j.0 h k (c.files ∙ ap (written_all old) (sym e)) (λ t. absurd (false≢true (sym w ∙ t))) (λ t. (c, e))
+    let past = changes_from (answer s) first 1 c.past in
+    let up_to = changes_up_to next.parts c.cut.whole c.cut.made in
+    let i = parts_front next.parts y.0 c.cut.whole c.cut.made in
+    let j = front_behind past (made_by next.parts ++ y.0) up_to i.0 i.1 in
+    let e : take j.0 (session_changes (answer s) first script) ≡ past ++ up_to = ap (λ x. take j.0 (changes_from (answer s) first 1 x)) c.split ∙ ap (take j.0) y.1 ∙ j.1 in
+    keeps_so valid s before now old new l script status j.0 h k (c.cut.files ∙ ap (written_all old) (sym e)) (λ t. absurd (false≢true (sym w ∙ t))) (λ t. (c, e))
 
 keeps_whole : NewIsValid → (s : Settings) (before now : List ℕ) (old new : Files) (l : Library) (script : List ℕ) (status : ℕ) → IsLibrary l → Kept old l → is_whole status ≡ true → SameFiles new (written_all old (session_changes (answer s) (start old l) script)) → KeepsOn s before now old new l script status
 keeps_whole valid s before now old new l script status h k w f =

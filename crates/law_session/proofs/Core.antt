@@ -1,13 +1,12 @@
 -- Worlds that are alike, whatever lines are to come.
-use Rattle.std.proofs.Common.{◌≡◌, ℕ, ◌+◌, List, [], ◌∷◌, ◌++◌, Bool, true, false, cond, length, take, refl, sym, ap, ◌∙◌, subst, append_assoc, Option, Some, None, Result, Ok, Err}
-use Rattle.std.specs.Prelude.{zero, suc, map, bytes_eq}
+use Rattle.std.proofs.Common.{◌≡◌, ℕ, List, [], ◌∷◌, Bool, true, false, cond, refl, sym, ap, ◌∙◌, subst, Option, Some, Result, Ok, Err}
+use Rattle.std.specs.Prelude.{map, bytes_eq}
 use Rattle.std.proofs.lemmas.Slice.Eq.{bytes_eq-Decides}
 use Rattle.ob_tree.specs.declared.print.Print.{Print}
 use Rattle.ob_io.specs.Io.{put}
 use Rattle.ob_env.specs.Faces.{Face, printed}
 use Rattle.ob_env_walk.specs.Walk.{symbol_name, symbol_entry}
-use Rattle.ob_cmp.specs.Verdicts.{compiled_text}
-use Rattle.ob_link.specs.Plan.{Entry, Missing, TooLong, Junk, Holds}
+use Rattle.ob_link.specs.Plan.{Entry, Holds}
 use Rattle.ob_link.specs.Files.{Files, object_file_name}
 use Rattle.ob_compile_model.specs.Compiling as compile
 use Rattle.ob_compile_model.specs.Compiling.{Compiled, compiled, texts, prints, object_bytes, symbol_bytes}
@@ -15,9 +14,9 @@ use Rattle.ob_words.specs.declared.asked.Settings.{Settings}
 use Rattle.ob_shell_reports.specs.Texts.{compile_reason}
 use Rattle.ob_shell_model.specs.Bytes as bytes
 use Rattle.ob_shell_model.specs.Bytes.{files_of}
-use Rattle.ob_builds.specs.Builds.{Text, Build, IsValid, of, name_of, file_of, bytes_of, symbols_of}
-use Rattle.ob_shell_model.specs.Library.{IsLibrary, IsEntry, Kept, Change, ObjectBecomes, with_entry}
-use Rattle.ob_shell_model.specs.Model.{World, interface_in, becomes, new_build, counted, with_changes, written_all, or_empty}
+use Rattle.ob_builds.specs.Builds.{Text, Build, IsValid, of, file_of, bytes_of, symbols_of}
+use Rattle.ob_shell_model.specs.Library.{IsLibrary, IsEntry, Kept, with_entry}
+use Rattle.ob_shell_model.specs.Model.{World, interface_in, becomes, new_build, counted, with_changes, or_empty}
 use Rattle.ob_builds.specs.Afresh.{AreTogether}
 use Rattle.ob_builds.specs.Simulated.{StandFor}
 use Rattle.ob_builds.specs.Written.{BuildsAreWritten}

@@ -8,26 +8,27 @@ use Rattle.ob_meaning.specs.Commands.{nothing_loaded}
 use Rattle.ob_env.specs.Faces.{Face}
 use Rattle.ob_env_walk.specs.Walk.{symbol_entry}
 use Rattle.ob_demo.specs.Source.{source, module_name}
-use Rattle.ob_link.specs.Plan.{Missing, TooLong, Junk}
 use Rattle.ob_link.specs.Files.{Files}
 use Rattle.ob_compile_model.specs.Compiling as compile
 use Rattle.ob_compile_model.specs.Compiling.{Compiled, compiled, texts, prints}
 use Rattle.ob_words.specs.declared.asked.Settings.{Settings}
 use Rattle.ob_shell_reports.specs.Texts.{demo_text}
+use Rattle.ob_shell_model.specs.Folds.{printed_by}
 use Rattle.ob_shell_model.specs.Bytes as bytes
 use Rattle.ob_shell_model.specs.Bytes.{source_name, no_files}
 use Rattle.ob_builds.specs.Builds.{Text}
-use Rattle.ob_shell_model.specs.Library.{empty, with_entry}
-use Rattle.ob_shell_model.specs.Model.{World, Making, start, interface_in, or_empty, made_of, made_one, with_source, and_more, demo_behind, demo_answer, compiled_in}
+use Rattle.ob_shell_model.specs.Library.{empty}
+use Rattle.ob_shell_model.specs.Model.{World, Making, start, interface_in, or_empty, made_of, made_one, with_source, and_more, demo_behind, demo_answer, command_answer}
 use Rattle.ob_builds.specs.Written.{BuildsAreWritten}
 use Rattle.law_session.specs.New.{NewIsValid}
 use Rattle.ob_builds.specs.Simulated.{StandFor}
 use Rattle.ob_shell_model.specs.OneAge.{ByCompile, ByDemo, AreToldApart}
-use Rattle.law_session.specs.Composing.{CompilesAlike, PlansAlike}
+use Rattle.law_session.specs.Composing.{as_bytes, CompilesAlike, PlansAlike}
+use Rattle.law_session.proofs.Parts.{printed_same}
 use Rattle.law_session.proofs.Keeping.{source_stays}
 use Rattle.law_session.proofs.Named.{module_named}
 use Rattle.law_session.proofs.Core.{Core, CompilesSo, compiles_so}
-use Rattle.law_session.proofs.Commanded.{Alright, commands_so}
+use Rattle.law_session.proofs.Commanded.{Alright, one_part, commands_so}
 
 -- THE EMPTY FOLDER
 
@@ -124,7 +125,7 @@ module _ (s : Settings) (compiles : CompilesAlike) (plans : PlansAlike) (written
   -- THE LINE
 
   answered : (w : bytes.World) (v : World) (n : ℕ) → n ≤ 60 → AreToldApart (ByDemo n) → Core s w v → (x : bytes.Making) (y : Making) → demo_behind n n ≡ y → SameMaking x y → Alright s (bytes.demo_answer s w n x) (demo_answer s v n y)
-  answered w v n le told h None None e k = record { same = record { text = refl; opening = refl; refused = refl; changes = refl }; core = h }
+  answered w v n le told h None None e k = record { same = record { parts = refl; refused = refl }; core = h }
   answered w v n le told h (Some x) None e k = absurd k
   answered w v n le told h None (Some y) e k = absurd k
   answered w v n le told h (Some x) (Some y) e k =
@@ -132,10 +133,9 @@ module _ (s : Settings) (compiles : CompilesAlike) (plans : PlansAlike) (written
       let is : x.0 ≡ y.0 = let e = k.0 in omega (arith, e) in
       record {
         same = record {
-          text = ap (λ o. demo_text n o ++ (bytes.command_answer s (bytes.start s x.1) (module_name n) (codes "Go")).text) is ∙ ap (λ t. demo_text n y.0 ++ t) c.same.text;
-          opening = ap (demo_text n) is;
+          parts = ap (λ o. one_part (demo_text n o) ++ one_part (printed_by (bytes.command_answer s (bytes.start s x.1) (module_name n) (codes "Go")).parts)) is
+              ∙ ap (λ t. one_part (demo_text n y.0) ++ one_part t) (ap printed_by c.same.parts ∙ printed_same as_bytes (command_answer s y.1 (module_name n) (codes "Go")).parts);
           refused = c.same.refused;
-          changes = refl;
         };
         core = h;
       }

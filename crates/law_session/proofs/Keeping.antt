@@ -1,15 +1,14 @@
 -- A file that becomes a build keeps the library in which its entry becomes that build.
-use Rattle.std.proofs.Common.{◌≡◌, ℕ, List, [], ◌∷◌, ◌++◌, Bool, true, false, refl, sym, ap, ◌∙◌, subst, Option, Some, None, codes, arith, ⊎_elim, inl, inr}
-use Rattle.std.specs.Prelude.{◌⊎◌, cond, bytes_eq, zero, suc}
+use Rattle.std.proofs.Common.{◌≡◌, ℕ, List, [], ◌∷◌, ◌++◌, Bool, true, false, refl, sym, ap, ◌∙◌, subst, Some, codes, arith, ⊎_elim, inl, inr}
+use Rattle.std.specs.Prelude.{◌⊎◌, cond, bytes_eq}
 use Rattle.std.proofs.lemmas.Bool.{false≢true}
 use Rattle.std.proofs.lemmas.Slice.Eq.{bytes_eq-Decides}
 use Rattle.std.proofs.lemmas.List.{append_cancel_right}
 use Rattle.ob_io.specs.Io.{put}
-use Rattle.ob_link.specs.Plan.{Entry, Missing, TooLong, Junk, Holds}
+use Rattle.ob_link.specs.Plan.{Entry, Holds}
 use Rattle.ob_link.specs.Files.{Files, object_file_name}
 use Rattle.ob_env_walk.specs.Walk.{symbol_name}
 use Rattle.ob_demo.specs.Source.{module_name}
-use Rattle.ob_parse_grammar.specs.Identifiers.{is_identifier}
 use Rattle.ob_shell_model.specs.Bytes.{source_name}
 use Rattle.ob_builds.specs.Builds.{Build, bytes_of, symbols_of}
 use Rattle.ob_shell_model.specs.Library.{Library, Kept, ObjectKept, SymbolKept, with_entry, Change, ObjectBecomes, SymbolBecomes, after, after_all}

@@ -6,9 +6,11 @@ pub mod Held
 pub mod Whole
 pub mod Keeping
 pub mod Libraries
+pub mod Parts
 pub mod Transfer
 pub mod Composed
 pub mod Imports
+pub mod ObjectEntries
 pub mod Checked
 pub mod LoadLaw
 pub mod Spelled
@@ -17,10 +19,13 @@ pub mod Core
 pub mod Known
 pub mod Spoken
 pub mod Commanded
+pub mod Made
 pub mod Told
 pub mod OneAge
+pub mod MakesOrder
+pub mod MakesSeen
+pub mod Makes
 pub mod Agreed
 pub mod CompileLaw
 pub mod Demos
-pub mod ObjectEntries
 pub mod Chain

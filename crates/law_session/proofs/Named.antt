@@ -1,17 +1,18 @@
 -- The names in a line of a script.
-use Rattle.std.proofs.Common.{◌≡◌, ℕ, ◌+◌, ◌-◌, ◌*◌, ◌<◌, ◌≤◌, List, [], ◌∷◌, Bool, true, false, cond, refl, sym, ap, ◌∙◌, subst, codes, Option, Some, None, position, take, drop, bytes_eq, arith, ⊎_elim, inl, inr}
+use Rattle.std.proofs.Common.{◌≡◌, ℕ, ◌+◌, ◌-◌, ◌*◌, ◌<◌, ◌≤◌, List, [], ◌∷◌, Bool, true, false, cond, refl, ap, ◌∙◌, codes, Option, Some, None, position, take, drop, bytes_eq, arith, ⊎_elim}
 use Rattle.std.specs.Prelude.{zero, suc, nat_le, ◌&&◌, ◌⊎◌}
 use Rattle.std.specs.Fmt.{digits}
 use Rattle.std.proofs.lemmas.Bool.{leb-true, and_parts}
 use Rattle.ob_demo.specs.Source.{module_name}
 use Rattle.ob_parse_grammar.specs.Identifiers.{is_identifier}
-use Rattle.ob_shell_lines.specs.Lines.{Line, Compile, Compare, Check, Show, Demo, Command, Unknown, Nothing, when, demo_line, count_of, number_if, up_to_sixty, is_first_digit, is_digit, dotted, is_dot, line_of_two, line_of_three, line_of_words, line_of, words_of, without_return, is_file_name}
+use Rattle.ob_shell_lines.specs.Lines.{Line, Compile, Compare, Check, Make, Show, Demo, Command, Unknown, Nothing, when, demo_line, count_of, number_if, is_first_digit, is_digit, dotted, is_dot, line_of_two, line_of_three, line_of_words, line_of, words_of, without_return, is_file_name}
 
 -- names of modules and commands are identifiers, and a demo has at most 60 modules
 abbrev pub IsNamed : Line → Type 0
 IsNamed (Compile file) = Unit {0}
 IsNamed (Compare old new) = Unit {0}
 IsNamed (Check m) = is_identifier m ≡ true
+IsNamed (Make m) = is_identifier m ≡ true
 IsNamed (Show m) = Unit {0}
 IsNamed (Demo n) = n ≤ 60
 IsNamed (Command m command) = (is_identifier m ≡ true) × (is_identifier command ≡ true)
@@ -49,7 +50,8 @@ of_two word other =
     by_if (bytes_eq word (codes "compile")) (when (is_file_name other) (Compile other)) _ (by_test (is_file_name other) (Compile other) (λ e. tt))
     (by_if (bytes_eq word (codes "check")) (when (is_identifier other) (Check other)) _ (by_test (is_identifier other) (Check other) (λ e. e))
     (by_if (bytes_eq word (codes "show")) (when (is_identifier other) (Show other)) _ (by_test (is_identifier other) (Show other) (λ e. tt))
-    (by_if (bytes_eq word (codes "demo")) (demo_line (count_of other)) Unknown (of_count other) tt)))
+    (by_if (bytes_eq word (codes "make")) (when (is_identifier other) (Make other)) _ (by_test (is_identifier other) (Make other) (λ e. e))
+    (by_if (bytes_eq word (codes "demo")) (demo_line (count_of other)) Unknown (of_count other) tt))))
 
 of_three : (word old new : List ℕ) → IsNamed (line_of_three word old new)
 of_three word old new = by_if (bytes_eq word (codes "compare")) (when (is_file_name old && is_file_name new) (Compare old new)) Unknown (by_test (is_file_name old && is_file_name new) (Compare old new) (λ e. tt)) tt

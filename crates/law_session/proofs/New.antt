@@ -1,5 +1,5 @@
 -- What compiles against a library is a valid build.
-use Rattle.std.proofs.Common.{◌≡◌, ℕ, List, [], ◌∷◌, length, Bool, true, false, cond, refl, sym, ap, ◌∙◌, subst, Option, Some, None, Result, Ok, Err}
+use Rattle.std.proofs.Common.{◌≡◌, ℕ, List, [], ◌∷◌, length, Bool, true, false, refl, sym, ap, ◌∙◌, subst, Option, Some, None, Result, Ok, Err}
 use Rattle.std.specs.Prelude.{nat_le, map as each}
 use Rattle.std.specs.List.{AllByRecursion}
 use Rattle.std.proofs.lemmas.Bool.{false≢true}
@@ -16,22 +16,22 @@ use Rattle.ob_env.specs.Faces.{Face, described, printed, interface_of}
 use Rattle.ob_env.specs.Shown.{shown}
 use Rattle.ob_env.specs.Stale.{StaleUse, first_stale}
 use Rattle.ob_env.specs.Fit.{first_unfit}
-use Rattle.ob_env.specs.Answer.{Standing, Stands, Stale, Unfit, if_fit, if_coherent, standing}
+use Rattle.ob_env.specs.Answer.{if_fit, if_coherent, standing}
 use Rattle.ob_env_walk.specs.Walk as walk
 use Rattle.ob_env_walk.specs.Walk.{Walked, Left, NoInterface, Damaged, Cycle, TooMany, walk as walked_from}
-use Rattle.ob_env_walk.specs.Answer.{after_walk, env_answer}
+use Rattle.ob_env_walk.specs.Answer.{after_walk}
 use Rattle.ob_parse_grammar.specs.TextReading.{NoModule, reading}
 use Rattle.ob_link.specs.Plan.{Entry, Missing, TooLong, Junk, Holds}
 use Rattle.ob_compile_model.specs.Compiling as c
 use Rattle.ob_compile_model.specs.Compiling.{Refusal, Compiled, compiled, texts, made, within, exceeds, of_checked, of_break, by_rules, and_limits, unless_deep, is_deep, of_faces, of_standing, of_reached, of_few, of_tree, of_reading, of_short, most_imports, most_source, imported}
-use Rattle.ob_builds.specs.Builds.{Text, Build, IsValid, IsSpelled, shows_of, name_of}
+use Rattle.ob_builds.specs.Builds.{Text, Build, IsSpelled, shows_of}
 use Rattle.ob_shell_model.specs.Library.{Library, IsLibrary, IsEntry}
-use Rattle.ob_shell_model.specs.Model.{face_entry, interface_in, new_build}
+use Rattle.ob_shell_model.specs.Model.{face_entry, interface_in}
 use Rattle.ob_builds.specs.Written.{BuildsAreWritten}
 use Rattle.law_session.specs.New.{NewIsValid}
 use Rattle.law_builds.proofs.Compiled.{ok_is, err_no}
 use Rattle.law_builds.proofs.Faces.{of_is}
-use Rattle.law_builds.proofs.Again.{AreNamed, AreHeld, IsHeld, only, walk_again}
+use Rattle.law_builds.proofs.Again.{AreNamed, AreHeld, only, walk_again}
 
 -- THE WALK BEHIND A COMPILE
 

@@ -3,7 +3,6 @@ use Rattle.std.proofs.Common.{◌≡◌, ℕ, ◌<◌, ◌≤◌, List, length, 
 use Rattle.std.specs.Prelude.{nat_le, nat_lt}
 use Rattle.std.proofs.lemmas.Bool.{leb-true}
 use Rattle.ob_obj.specs.declared.file.ObjFile.{ObjFile}
-use Rattle.ob_env_walk.specs.Walk.{file_limit}
 use Rattle.ob_link.specs.Plan.{Entry, Missing, TooLong, Junk, Holds}
 use Rattle.ob_link.specs.Files as objects
 use Rattle.ob_link.specs.Files.{Files, most_bytes, decoded, decoded_as, object_entry, object_file_name}
@@ -11,9 +10,9 @@ use Rattle.ob_link.proofs.Decoded.{decoded_again}
 use Rattle.ob_compile_model.specs.Compiling.{Compiled, texts, object_by, object_bytes}
 use Rattle.ob_parse_grammar.specs.Identifiers.{is_identifier}
 use Rattle.law_load_plan.specs.Alike.{entry_as}
-use Rattle.ob_builds.specs.Builds.{Text, Build, IsValid, of, shows_of, name_of, file_of, bytes_of}
+use Rattle.ob_builds.specs.Builds.{Text, Build, IsValid, of, name_of, file_of}
 use Rattle.ob_shell_model.specs.Library.{Library, IsLibrary, IsEntry, Kept, ObjectKept}
-use Rattle.ob_builds.specs.Written.{IsWritten, BuildsAreWritten}
+use Rattle.ob_builds.specs.Written.{BuildsAreWritten}
 use Rattle.law_builds.proofs.Compiled.{comes, short}
 use Rattle.law_builds.proofs.Faces.{of_is}
 use Rattle.law_lists.proofs.Lists.{bytes_same}

@@ -1,22 +1,25 @@
 -- Lines that compile nothing, over a library of one age.
 use Rattle.std.proofs.Common.{◌≡◌, ℕ, ◌+◌, ◌≤◌, List, [], ◌∷◌, ◌++◌, length, refl, sym, subst, arith, Option, Some, Result, Ok, Err, ⊎_elim, inl, inr}
-use Rattle.std.specs.Prelude.{suc, map, Contains, ◌⊎◌}
+use Rattle.std.specs.Prelude.{suc, map, Contains}
 use Rattle.std.specs.List.{AllByRecursion}
 use Rattle.ob_env.specs.Faces.{Face, text_in}
 use Rattle.ob_compile_model.specs.Compiling.{imported}
 use Rattle.ob_demo.specs.Source.{module_name}
 use Rattle.ob_link.specs.Plan as load
 use Rattle.ob_link.specs.Files.{Files}
-use Rattle.ob_shell_lines.specs.Lines.{Line, Compile, Compare, Check, Show, Demo, Command, Unknown, Nothing, line_of}
+use Rattle.ob_shell_lines.specs.Lines.{Line, Compile, Compare, Check, Make, Show, Demo, Command, Unknown, Nothing, line_of}
 use Rattle.ob_words.specs.declared.asked.Settings.{Settings}
 use Rattle.ob_builds.specs.Builds.{Text, Build}
 use Rattle.ob_builds.specs.Simulated.{ended}
 use Rattle.ob_shell_model.specs.Bytes.{source_name}
-use Rattle.ob_shell_model.specs.Folds.{world_from}
+use Rattle.ob_make.specs.declared.turns.Turn.TheVariants as turn
+use Rattle.ob_make.specs.Folder.{source_name as source_file}
+use Rattle.ob_shell_model.specs.Folds.{made_by, world_from}
+use Rattle.ob_shell_model.specs.Making.{HasTurn, turn_at}
 use Rattle.ob_shell_model.specs.Library.{Library, IsLibrary}
-use Rattle.ob_shell_model.specs.Model.{World, start, answer, interface_in, with_source, load_answer, build_plan, demo_behind}
+use Rattle.ob_shell_model.specs.Model.{World, start, answer, interface_in, with_source, load_answer, build_plan, demo_behind, maker}
 use Rattle.ob_shell_model.specs.Headline.{IsIn}
-use Rattle.ob_shell_model.specs.OneAge.{OfBuilds, ByCompile, IsNeeded, ByLoad, ByDemo, ByLine, StandsAsCompared, AreOfOneAge, StandsInOneAge, IsOfOneAge, CompilesNothing}
+use Rattle.ob_shell_model.specs.OneAge.{OfBuilds, ByCompile, ByCheck, IsNeeded, ByLoad, ByDemo, ByMake, ByLine, StandsAsCompared, AreOfOneAge, StandsInOneAge, IsOfOneAge, CompilesNothing}
 use Rattle.law_builds.proofs.Members.{to_in, has_right, has_head, has_none, has_take, has_either}
 use Rattle.law_builds.proofs.Again.{IsHeld, AreHeld, walk_again}
 use Rattle.law_session.specs.New.{NewIsValid}
@@ -26,6 +29,7 @@ use Rattle.law_session.proofs.Libraries.{library_stays, line_good}
 use Rattle.law_session.proofs.LoadLaw.{plan_found}
 use Rattle.law_session.proofs.Spoken.{ShownAmong, shown_among, found_build, found_named}
 use Rattle.law_session.proofs.Told.{held_in, IsFresh, AreFresh, fresh_behind}
+use Rattle.law_session.proofs.Made.{library_at}
 
 -- what is of one age needs no prints
 pub compared_so : (s : Settings) (l : Library) (files : Files) (script : List ℕ) → StandsInOneAge s files l script → StandsAsCompared s files l script
@@ -68,22 +72,32 @@ module _ (valid : NewIsValid) (s : Settings) where
       in_load c.1.1 (age c.0 c.1 (omega (arith, is)) c.2) (module_name n) kept found d.1)
       c.3
 
-  in_line : (v : World) → IsLibrary v.library → IsOfOneAge v → (line : Line) → ((n k : ℕ) (x : ℕ × World) → line ≡ Demo n → k ≤ n → demo_behind n k ≡ Some x → IsOfOneAge x.1) → (kept found : Text) → ByLine v line kept found → kept ≡ found
-  in_line v library age (Compile name) demos kept found c = in_compile v library age (v.files name) kept found c
-  in_line v library age (Compare old new) demos kept found c = absurd c
-  in_line v library age (Check m) demos kept found c = age c.0 c.1 (inl (m, inl c.3)) (inl (c.2, inr c.4)) kept found c.5
-  in_line v library age (Show m) demos kept found c = absurd c
-  in_line v library age (Demo n) demos kept found c = in_demo n (λ k x le e. demos n k x refl le e) kept found c
-  in_line v library age (Command m name) demos kept found c = in_load v age m kept found c
-  in_line v library age Unknown demos kept found c = absurd c
-  in_line v library age Nothing demos kept found c = absurd c
+  in_make : (v : World) → IsLibrary v.library → (m : List ℕ) → ((x : List ℕ) (u : World) → HasTurn maker m v x u → IsOfOneAge u) → (kept found : Text) → ByMake v m kept found → kept ≡ found
+  in_make v library m turns kept found c =
+      let age : IsOfOneAge c.1 = turns c.0 c.1 c.2 in
+      ⊎_elim
+      (λ (d : ByCheck c.1.library c.0 kept found). age d.0 d.1 (inl (c.0, inl d.3)) (inl (d.2, inr d.4)) kept found d.5)
+      (λ (d : (turn_at maker m c.1 c.0 ≡ turn.Compiles) × ByCompile c.1.library (c.1.files (source_file c.0)) kept found).
+      in_compile c.1 (library_at valid m v c.0 c.1 library c.2) age (c.1.files (source_file c.0)) kept found d.1)
+      c.3
+
+  in_line : (v : World) → IsLibrary v.library → IsOfOneAge v → (line : Line) → ((n k : ℕ) (x : ℕ × World) → line ≡ Demo n → k ≤ n → demo_behind n k ≡ Some x → IsOfOneAge x.1) → ((m x : List ℕ) (u : World) → line ≡ Make m → HasTurn maker m v x u → IsOfOneAge u) → (kept found : Text) → ByLine v line kept found → kept ≡ found
+  in_line v library age (Compile name) demos turns kept found c = in_compile v library age (v.files name) kept found c
+  in_line v library age (Compare old new) demos turns kept found c = absurd c
+  in_line v library age (Check m) demos turns kept found c = age c.0 c.1 (inl (m, inl c.3)) (inl (c.2, inr c.4)) kept found c.5
+  in_line v library age (Make m) demos turns kept found c = in_make v library m (λ x u t. turns m x u refl t) kept found c
+  in_line v library age (Show m) demos turns kept found c = absurd c
+  in_line v library age (Demo n) demos turns kept found c = in_demo n (λ k x le e. demos n k x refl le e) kept found c
+  in_line v library age (Command m name) demos turns kept found c = in_load v age m kept found c
+  in_line v library age Unknown demos turns kept found c = absurd c
+  in_line v library age Nothing demos turns kept found c = absurd c
 
   library_behind : (past : List (List ℕ)) (v : World) (n : ℕ) → IsLibrary v.library → IsLibrary (world_from (answer s) v n past).library
   unfolding world_from
   library_behind [] v n h = h
   library_behind (p ∷ past) v n h =
       let g = line_good valid s v n (line_of p) h in
-      library_behind past (answer s v n (line_of p)).world (n + 1) (subst IsLibrary (sym g.1) (library_stays (answer s v n (line_of p)).changes v.library h g.0))
+      library_behind past (answer s v n (line_of p)).world (n + 1) (subst IsLibrary (sym g.1) (library_stays (made_by (answer s v n (line_of p)).parts) v.library h g.0))
 
 pub worlds_so : WorldsGiveOneAge
 worlds_so k s l files script library kept h = record {
@@ -92,6 +106,7 @@ worlds_so k s l files script library kept h = record {
   age = λ a b c. in_line (new_is_valid k.written) s (world_from (answer s) (start files l) 1 c.0) (library_behind (new_is_valid k.written) s c.0 (start files l) 1 library)
       (h.worlds c.0 (c.2 ∷ c.1) c.3) (line_of c.2)
       (λ n j x e le is. h.demos n j c.2 x (subst (λ ls. Contains ls c.2) (sym c.3) (has_right c.0 (c.2 ∷ c.1) c.2 (has_head c.2 c.1))) e le is)
+      (λ m x u e t. h.turns c.0 c.1 c.2 m x u c.3 e t)
       a b c.4;
 }
 
@@ -108,6 +123,7 @@ module _ (s : Settings) where
   of_line v h (Compile name) n kept found c = absurd n
   of_line v h (Compare old new) n kept found c = absurd c
   of_line v h (Check m) n kept found c = h.age c.0 c.1 (m, inl c.3) (c.2, inr c.4) kept found c.5
+  of_line v h (Make m) n kept found c = absurd n
   of_line v h (Show m) n kept found c = absurd c
   of_line v h (Demo k) n kept found c = absurd n
   of_line v h (Command m name) n kept found c =
@@ -131,6 +147,7 @@ module _ (s : Settings) where
   behind v n (Compile name) c h = absurd c
   behind v n (Compare old new) c h = h
   behind v n (Check m) c h = h
+  behind v n (Make m) c h = absurd c
   behind v n (Show m) c h = h
   behind v n (Demo k) c h = absurd c
   behind v n (Command m name) c h = behind_load v m name (build_plan v.library v.loaded m name) (λ bs e. plan_found v.library h.library v.loaded m name bs e) h

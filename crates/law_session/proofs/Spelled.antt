@@ -12,7 +12,7 @@ use Rattle.ob_format.specs.Format.{list_of}
 use Rattle.ob_format.specs.Names.{name as name_form, qname as qname_form, is_identifier as is_name}
 use Rattle.ob_fprint.specs.Print.{print_from}
 use Rattle.ob_sym.specs.Grammar.{face as face_form, head as head_form, body as body_form}
-use Rattle.ob_env.specs.Faces.{Face, Wanted, use_of, printed, interface_of}
+use Rattle.ob_env.specs.Faces.{Face, Wanted, use_of}
 use Rattle.ob_parse_grammar.specs.Identifiers.{is_letter_or_digit, is_identifier}
 use Rattle.ob_builds.specs.Builds.{Text, IsSpelled}
 

@@ -1,6 +1,6 @@
 -- Where no two texts of the builds spoken of have one print, prints tell apart all that a session compares.
-use Rattle.std.proofs.Common.{◌≡◌, ℕ, ◌+◌, ◌≤◌, List, [], ◌∷◌, ◌++◌, true, false, length, refl, sym, ap, subst, Option, Some, None, Result, Ok, Err, ⊎_elim, inl, inr, cond, Bool, arith}
-use Rattle.std.specs.Prelude.{zero, suc, map, bytes_eq, Contains, ◌⊎◌}
+use Rattle.std.proofs.Common.{◌≡◌, ℕ, ◌+◌, ◌≤◌, List, [], ◌∷◌, ◌++◌, true, false, length, refl, sym, subst, Option, Some, None, Result, Ok, Err, ⊎_elim, inl, inr, Bool, arith}
+use Rattle.std.specs.Prelude.{zero, suc, map, Contains, ◌⊎◌}
 use Rattle.ob_env.specs.Faces.{Face}
 use Rattle.ob_link.specs.Plan as load
 use Rattle.ob_link.specs.Plan.{Entry, Holds}
@@ -8,45 +8,28 @@ use Rattle.ob_compile_model.specs.Compiling as compile
 use Rattle.ob_compile_model.specs.Compiling.{Compiled, imported}
 use Rattle.ob_demo.specs.Source.{module_name}
 use Rattle.ob_link.specs.Files.{Files}
-use Rattle.ob_shell_lines.specs.Lines.{Line, Compile, Compare, Check, Show, Demo, Command, Unknown, Nothing, line_of, done_lines}
+use Rattle.ob_shell_lines.specs.Lines.{Line, Compile, Compare, Check, Make, Show, Demo, Command, Unknown, Nothing, line_of, done_lines}
 use Rattle.ob_words.specs.declared.asked.Settings.{Settings}
 use Rattle.ob_builds.specs.Builds.{Text, Build, IsValid, shows_of}
 use Rattle.ob_builds.specs.Apart.{IsTextOfBuild}
 use Rattle.ob_builds.specs.Simulated.{ended}
 use Rattle.ob_shell_model.specs.Bytes.{source_name}
-use Rattle.ob_shell_model.specs.Folds.{changes_from, world_from}
-use Rattle.ob_shell_model.specs.Library.{Library, IsLibrary, IsEntry, ObjectBecomes, SymbolBecomes, with_entry, after_all}
-use Rattle.ob_shell_model.specs.Model.{World, Making, start, answer, interface_in, becomes, new_build, or_empty, with_source, compile_answer, compiled_in, load_answer, build_plan, demo_answer, demo_behind, made_of, made_one, and_more}
+use Rattle.ob_make.specs.declared.turns.Turn.TheVariants as turn
+use Rattle.ob_make.specs.Order.{order}
+use Rattle.ob_make.specs.Folder.{source_name as source_file}
+use Rattle.ob_shell_model.specs.Folds.{made_by, changes_from, world_from}
+use Rattle.ob_shell_model.specs.Making.{turn_at, make_answer}
+use Rattle.ob_shell_model.specs.Library.{Library, IsLibrary, IsEntry, ObjectBecomes}
+use Rattle.ob_shell_model.specs.Model.{World, Making, start, answer, interface_in, becomes, new_build, or_empty, with_source, compiled_in, load_answer, build_plan, demo_answer, demo_behind, made_of, made_one, and_more, seen_in, maker}
 use Rattle.ob_shell_model.specs.Headline.{IsIn, IsOfDemo, IsText, Stands}
-use Rattle.ob_shell_model.specs.OneAge.{ByCompile, ByCheck, IsNeeded, ByLoad, ByDemo, ByLine, StandsAsCompared}
+use Rattle.ob_shell_model.specs.OneAge.{ByCompile, ByCheck, IsNeeded, ByLoad, ByDemo, ByMake, ByLine, StandsAsCompared}
 use Rattle.law_builds.proofs.Members.{In, to_in, has_left, has_right, has_more, has_head, has_none, has_take, has_either}
 use Rattle.law_builds.proofs.Again.{IsHeld, AreHeld, walk_again}
 use Rattle.law_session.specs.New.{NewIsValid}
 use Rattle.law_session.proofs.Libraries.{library_stays, becomes_good, new_valid, line_good}
+use Rattle.law_session.proofs.Made.{IsThere, IsMadeIn, by_compile, make_from, at_turn, library_at}
 use Rattle.law_session.proofs.LoadLaw.{plan_found}
 use Rattle.law_session.proofs.Spoken.{IsKeptBy, ShownAmong, shown_among, of_build, spoken, found_named}
-
--- ---- an entry that becomes a build
-
-abbrev held_or : Build → Entry Build → Build
-held_or d (Holds b) = b
-held_or d e = d
-
-in_after : (entries : List ℕ → Entry Build) (name : List ℕ) (b x : Build) (n : List ℕ) → with_entry entries name b n ≡ Holds x → (entries n ≡ Holds x) ⊎ (x ≡ b)
-in_after entries name b x n e = go (bytes_eq n name) e
-  where
-    go : (t : Bool) → cond t (Holds b) (entries n) ≡ Holds x → (entries n ≡ Holds x) ⊎ (x ≡ b)
-    go true e = inr (sym (ap (held_or b) e))
-    go false e = inl e
-
-in_becomes : (l : Library) (text : List ℕ) (d : Compiled Text) (x : Build) → IsIn (after_all l (becomes text d)) x → IsIn l x ⊎ (x ≡ new_build text d)
-in_becomes l text d x i =
-    let name = d.shows.«module» in
-    let b = new_build text d in
-    ⊎_elim
-    (λ (o : with_entry l.objects name b i.0 ≡ Holds x). ⊎_elim (λ (k : l.objects i.0 ≡ Holds x). inl (i.0, inl k)) (λ (e : x ≡ b). inr e) (in_after l.objects name b x i.0 o))
-    (λ (o : with_entry l.symbols name b i.0 ≡ Holds x). ⊎_elim (λ (k : l.symbols i.0 ≡ Holds x). inl (i.0, inr k)) (λ (e : x ≡ b). inr e) (in_after l.symbols name b x i.0 o))
-    i.1
 
 -- WHAT IS COMPARED WHERE ALL TEXTS ARE AMONG SOME
 
@@ -155,10 +138,29 @@ module _ (valid : NewIsValid) (s : Settings) (P : Text → Type 0) where
       (λ b i. absurd (has_none b (subst (λ bs. Contains bs b) f.1 i))) (module_name n) kept found d.1)
       c.3
 
+  -- what the first line makes is to come
+  now : (v : World) (n : ℕ) (l : List ℕ) (ls : List (List ℕ)) (name : List ℕ) (b : Build) → Contains (made_by (answer s v n (line_of l)).parts) (ObjectBecomes name b) → IsToCome s v n (l ∷ ls) b
+  unfolding changes_from
+  now v n l ls name b c = let a = answer s v n (line_of l) in inl (name, has_left (made_by a.parts) (changes_from (answer s) a.world (n + 1) ls) (ObjectBecomes name b) c)
+
+  -- the turns of a make
+  in_make : (v : World) (n : ℕ) (l : List ℕ) (ls : List (List ℕ)) → Before s P v n (l ∷ ls) → (m : List ℕ) → line_of l ≡ Make m → (kept found : Text) → ByMake v m kept found → Both P kept found
+  in_make v n l ls h m e kept found c =
+      let library : IsLibrary c.1.library = library_at valid m v c.0 c.1 h.library c.2 in
+      let all : AreOf P c.1.library = λ b i t x. ⊎_elim
+      (λ (j : IsThere v b). h.texts b j t x)
+      (λ (k : IsMadeIn (make_answer maker m v) b). h.to_come b (now v n l ls k.0 b (subst (λ z. Contains (made_by (answer s v n z).parts) (ObjectBecomes k.0 b)) (sym e) k.1)) t x)
+      (at_turn m v c.0 c.1 c.2 b (inl i)) in
+      ⊎_elim
+      (λ (d : ByCheck c.1.library c.0 kept found). in_check P c.1.library library all c.0 kept found d)
+      (λ (d : (turn_at maker m c.1 c.0 ≡ turn.Compiles) × ByCompile c.1.library (c.1.files (source_file c.0)) kept found). in_compile P c.1.library library all (c.1.files (source_file c.0)) kept found d.1)
+      c.3
+
   in_line : (v : World) (n : ℕ) (l : List ℕ) (ls : List (List ℕ)) → Before s P v n (l ∷ ls) → (line : Line) → line_of l ≡ line → (kept found : Text) → ByLine v line kept found → Both P kept found
   in_line v n l ls h (Compile name) e kept found c = in_compile P v.library h.library (λ b i t x. h.texts b (inl i) t x) (v.files name) kept found c
   in_line v n l ls h (Compare old new) e kept found c = absurd c
   in_line v n l ls h (Check m) e kept found c = in_check P v.library h.library (λ b i t x. h.texts b (inl i) t x) m kept found c
+  in_line v n l ls h (Make m) e kept found c = in_make v n l ls h m e kept found c
   in_line v n l ls h (Show m) e kept found c = absurd c
   in_line v n l ls h (Demo k) e kept found c = in_demo k (λ j x le is b i t y. h.to_come b (inr (k, j, l, x, has_head l ls, e, le, is, i)) t y) kept found c
   in_line v n l ls h (Command m name) e kept found c = in_load P v.library h.library (λ b i t x. h.texts b (inl i) t x) v.loaded (λ b i t x. h.texts b (inr i) t x) m kept found c
@@ -166,17 +168,6 @@ module _ (valid : NewIsValid) (s : Settings) (P : Text → Type 0) where
   in_line v n l ls h Nothing e kept found c = absurd c
 
   -- ---- the builds behind a line were there before it, or the line made them
-
-  abbrev IsThere : World → Build → Type 0
-  IsThere v b = IsIn v.library b ⊎ Contains v.loaded b
-
-  by_compile : (v : World) (name text : List ℕ) (r : Result (Compiled Text) (compile.Refusal Text)) (b : Build) → IsThere (compile_answer v name text r).world b → IsThere v b ⊎ ((m : List ℕ) × Contains (compile_answer v name text r).changes (ObjectBecomes m b))
-  by_compile v name text (Err r) b i = inl i
-  by_compile v name text (Ok c) b (inr i) = inl (inr i)
-  by_compile v name text (Ok c) b (inl i) = ⊎_elim
-      (λ (j : IsIn v.library b). inl (inl j))
-      (λ (e : b ≡ new_build text c). inr (c.shows.«module», subst (λ x. Contains (becomes text c) (ObjectBecomes c.shows.«module» x)) (sym e) (has_head (ObjectBecomes c.shows.«module» (new_build text c)) (SymbolBecomes c.shows.«module» (new_build text c) ∷ []))))
-      (in_becomes v.library text c b i)
 
   by_load : (v : World) (m name : List ℕ) (r : Result (List Build) (load.Refusal Text)) → ((bs : List Build) → r ≡ Ok bs → (b : Build) → Contains bs b → IsIn v.library b) → (b : Build) → IsThere (load_answer s v m name r).world b → IsThere v b
   by_load v m name (Err r) found b i = i
@@ -189,10 +180,11 @@ module _ (valid : NewIsValid) (s : Settings) (P : Text → Type 0) where
   by_demo v k None b i = i
   by_demo v k (Some x) b i = i
 
-  by_line : (v : World) (n : ℕ) (line : Line) → IsLibrary v.library → (b : Build) → IsThere (answer s v n line).world b → IsThere v b ⊎ ((m : List ℕ) × Contains (answer s v n line).changes (ObjectBecomes m b))
+  by_line : (v : World) (n : ℕ) (line : Line) → IsLibrary v.library → (b : Build) → IsThere (answer s v n line).world b → IsThere v b ⊎ IsMadeIn (answer s v n line) b
   by_line v n (Compile name) h b i = by_compile v name (or_empty (v.files name)) (compiled_in v (v.files name)) b i
   by_line v n (Compare old new) h b i = inl i
   by_line v n (Check m) h b i = inl i
+  by_line v n (Make m) h b i = make_from m (order (seen_in v) m) v b i
   by_line v n (Show m) h b i = inl i
   by_line v n (Demo k) h b i = inl (by_demo v k (demo_behind k k) b i)
   by_line v n (Command m name) h b i = inl (by_load v m name (build_plan v.library v.loaded m name) (λ bs e. plan_found v.library h v.loaded m name bs e) b i)
@@ -202,22 +194,18 @@ module _ (valid : NewIsValid) (s : Settings) (P : Text → Type 0) where
   -- what is to come behind a line was to come before it
   later : (v : World) (n : ℕ) (l : List ℕ) (ls : List (List ℕ)) (b : Build) → IsToCome s (answer s v n (line_of l)).world (n + 1) ls b → IsToCome s v n (l ∷ ls) b
   unfolding changes_from
-  later v n l ls b (inl c) = let a = answer s v n (line_of l) in inl (c.0, has_right a.changes (changes_from (answer s) a.world (n + 1) ls) (ObjectBecomes c.0 b) c.1)
+  later v n l ls b (inl c) = let a = answer s v n (line_of l) in inl (c.0, has_right (made_by a.parts) (changes_from (answer s) a.world (n + 1) ls) (ObjectBecomes c.0 b) c.1)
   later v n l ls b (inr d) = inr (d.0, d.1, d.2, d.3, has_more l ls d.2 d.4, d.5, d.6, d.7, d.8)
-
-  now : (v : World) (n : ℕ) (l : List ℕ) (ls : List (List ℕ)) (name : List ℕ) (b : Build) → Contains (answer s v n (line_of l)).changes (ObjectBecomes name b) → IsToCome s v n (l ∷ ls) b
-  unfolding changes_from
-  now v n l ls name b c = let a = answer s v n (line_of l) in inl (name, has_left a.changes (changes_from (answer s) a.world (n + 1) ls) (ObjectBecomes name b) c)
 
   behind : (v : World) (n : ℕ) (l : List ℕ) (ls : List (List ℕ)) → Before s P v n (l ∷ ls) → Before s P (answer s v n (line_of l)).world (n + 1) ls
   behind v n l ls h =
       let a = answer s v n (line_of l) in
       let g = line_good valid s v n (line_of l) h.library in
       record {
-        library = subst IsLibrary (sym g.1) (library_stays a.changes v.library h.library g.0);
+        library = subst IsLibrary (sym g.1) (library_stays (made_by a.parts) v.library h.library g.0);
         texts = λ b i t x. ⊎_elim
             (λ (j : IsThere v b). h.texts b j t x)
-            (λ (c : (m : List ℕ) × Contains a.changes (ObjectBecomes m b)). h.to_come b (now v n l ls c.0 b c.1) t x)
+            (λ (c : IsMadeIn a b). h.to_come b (now v n l ls c.0 b c.1) t x)
             (by_line v n (line_of l) h.library b i);
         to_come = λ b i t x. h.to_come b (later v n l ls b i) t x;
       }

@@ -1,27 +1,13 @@
 -- Sessions that agree line by line end alike.
-use Rattle.std.proofs.Common.{◌≡◌, ℕ, ◌+◌, List, [], ◌∷◌, ◌++◌, length, take, Bool, true, false, refl, sym, ap, ◌∙◌, subst, arith, ◌≤◌}
-use Rattle.std.specs.Prelude.{zero, suc, ◌||◌, ◌⊎◌, map, cond}
+use Rattle.std.proofs.Common.{◌≡◌, ℕ, ◌+◌, List, [], ◌∷◌, ◌++◌, length, Bool, false, refl, sym, ap, ◌∙◌, subst, arith}
+use Rattle.std.specs.Prelude.{◌||◌, map, cond}
 use Rattle.std.proofs.lemmas.List.{append-nil}
-use Rattle.ob_io.specs.Io.{SameFiles}
 use Rattle.ob_link.specs.Files.{Files}
 use Rattle.ob_shell_lines.specs.Lines.{line_of, lines_of, exceeds, done_lines}
-use Rattle.ob_shell_model.specs.Folds.{Answer, Answers, text_from, refused_from, world_from, changes_from, session_text, session_status, session_changes}
+use Rattle.ob_shell_model.specs.Folds.{Answers, printed_by, made_by, text_from, refused_from, world_from, changes_from, session_changes}
 use Rattle.ob_shell_model.specs.Session.{Kind, Ends, IsCut, next_of}
 use Rattle.law_session.specs.Agreeing.{AreSame, Agree, MakeSame}
-
-map_append : {A B : Type 0} (f : A → B) (xs ys : List A) → map f (xs ++ ys) ≡ map f xs ++ map f ys
-map_append f [] ys = refl
-map_append f (x ∷ xs) ys = ap (λ r. f x ∷ r) (map_append f xs ys)
-
-map_take : {A B : Type 0} (f : A → B) (n : ℕ) (xs : List A) → take n (map f xs) ≡ map f (take n xs)
-map_take f zero [] = refl
-map_take f (suc n) [] = refl
-map_take f zero (x ∷ xs) = refl
-map_take f (suc n) (x ∷ xs) = ap (λ r. f x ∷ r) (map_take f n xs)
-
-map_length : {A B : Type 0} (f : A → B) (xs : List A) → length (map f xs) ≡ length xs
-map_length f [] = refl
-map_length f (x ∷ xs) = let e = map_length f xs in omega (arith, e)
+use Rattle.law_session.proofs.Parts.{map_append, printed_same, made_same, parts_cut}
 
 -- what two sessions have alike behind some lines
 record Behind {W V C D : Type 0} (f : D → C) (R : W → V → ℕ → List (List ℕ) → Type 0) (one : Answers W C) (two : Answers V D) (w : W) (v : V) (n m : ℕ) (past rest : List (List ℕ)) : Type 0 where
@@ -40,8 +26,8 @@ behind_more f R one two w v n m l past rest s b =
     let a = one w n (line_of l) in
     let c = two v n (line_of l) in
     record {
-      text = ap (λ t. t ++ text_from one a.world (n + 1) past) s.text ∙ ap (λ t. c.text ++ t) b.text;
-      changes = ap (λ t. t ++ changes_from one a.world (n + 1) past) s.changes ∙ ap (λ t. map f c.changes ++ t) b.changes ∙ sym (map_append f c.changes (changes_from two c.world (n + 1) past));
+      text = ap (λ ps. printed_by ps ++ text_from one a.world (n + 1) past) s.parts ∙ ap (λ t. t ++ text_from one a.world (n + 1) past) (printed_same f c.parts) ∙ ap (λ t. printed_by c.parts ++ t) b.text;
+      changes = ap (λ ps. made_by ps ++ changes_from one a.world (n + 1) past) s.parts ∙ ap (λ t. t ++ changes_from one a.world (n + 1) past) (made_same f c.parts) ∙ ap (λ t. map f (made_by c.parts) ++ t) b.changes ∙ sym (map_append f (made_by c.parts) (changes_from two c.world (n + 1) past));
       refused = λ before. ap (λ x. refused_from one a.world (n + 1) past (before || x)) s.refused ∙ b.refused (before || c.refused);
       related = b.related;
     }
@@ -57,31 +43,22 @@ all_behind : {W V C D : Type 0} (f : D → C) (R : W → V → ℕ → List (Lis
 all_behind f R one two law lines w v r = behind f R one two law lines [] w v 1 (1 + length lines) refl (subst (R w v 1) (sym (append-nil lines)) r)
 
 next_same : {W V C D : Type 0} (f : D → C) (R : W → V → ℕ → List (List ℕ) → Type 0) (one : Answers W C) (two : Answers V D) → Agree f R one two → (w : W) (v : V) (m : ℕ) (rest : List (List ℕ)) → R w v m rest → AreSame f (next_of one w m rest) (next_of two v m rest)
-next_same f R one two law w v m [] r = record { text = refl; opening = refl; refused = refl; changes = refl }
+next_same f R one two law w v m [] r = record { parts = refl; refused = refl }
 next_same f R one two law w v m (l ∷ ls) r = (law w v m l ls r).0
 
 cut_alike : {W V C D : Type 0} (f : D → C) (R : W → V → ℕ → List (List ℕ) → Type 0) (one : Kind W C) (two : Kind V D) → Agree f R one.answer two.answer → MakeSame f one.make two.make → (before now : List ℕ) (old new : Files) (lines : List (List ℕ)) (status : ℕ) → R one.first two.first 1 lines → IsCut one before now old new lines status → IsCut two before now old new lines status
 cut_alike f R one two law make before now old new lines status r c =
     let b = behind f R one.answer two.answer law c.past c.rest one.first two.first 1 (1 + length c.past) refl (subst (R one.first two.first 1) c.split r) in
     let s = next_same f R one.answer two.answer law (world_from one.answer one.first 1 c.past) (world_from two.answer two.first 1 c.past) (1 + length c.past) c.rest b.related in
-    let next = next_of two.answer (world_from two.answer two.first 1 c.past) (1 + length c.past) c.rest in
     let past = changes_from two.answer two.first 1 c.past in
-    let e : changes_from one.answer one.first 1 c.past ++ take c.made (next_of one.answer (world_from one.answer one.first 1 c.past) (1 + length c.past) c.rest).changes ≡ map f (past ++ take c.made next.changes) =
-    ap (λ x. x ++ take c.made (next_of one.answer (world_from one.answer one.first 1 c.past) (1 + length c.past) c.rest).changes) b.changes ∙ ap (λ x. map f past ++ take c.made x) s.changes ∙ ap (λ x. map f past ++ x) (map_take f c.made next.changes) ∙ sym (map_append f past (take c.made next.changes)) in
     record {
       past = c.past;
       rest = c.rest;
-      piece = c.piece;
-      left = c.left;
-      made = c.made;
       split = c.split;
-      written = c.written ∙ ap (λ x. before ++ (x ++ c.piece)) b.text;
-      front = sym s.text ∙ c.front;
-      files = c.files ∙ ap (one.make old) e ∙ make old (past ++ take c.made next.changes);
-      sink = λ z. let h = c.sink z in let k = ap length s.changes ∙ map_length f next.changes in omega (arith, h, k);
-      memory = λ z. subst (λ x. (c.made ≡ 0) × ((c.piece ≡ []) ⊎ (c.piece ≡ x))) s.opening (c.memory z);
-      folder = c.folder;
-      read = c.read;
+      cut = parts_cut f (next_of one.answer (world_from one.answer one.first 1 c.past) (1 + length c.past) c.rest).parts (next_of two.answer (world_from two.answer two.first 1 c.past) (1 + length c.past) c.rest).parts s.parts
+          (λ cs. one.make old (changes_from one.answer one.first 1 c.past ++ cs)) (λ ds. two.make old (past ++ ds))
+          (λ ds. ap (λ x. one.make old (x ++ map f ds)) b.changes ∙ ap (one.make old) (sym (map_append f past ds)) ∙ make old (past ++ ds))
+          (before ++ text_from one.answer one.first 1 c.past) (before ++ text_from two.answer two.first 1 c.past) now (ap (λ x. before ++ x) b.text) new status c.cut;
     }
 
 pub ends_alike : {W V C D : Type 0} (f : D → C) (R : W → V → ℕ → List (List ℕ) → Type 0) (one : Kind W C) (two : Kind V D) → Agree f R one.answer two.answer → MakeSame f one.make two.make → (before now : List ℕ) (old new : Files) (script : List ℕ) (status : ℕ) → R one.first two.first 1 (done_lines script) → Ends one before now old new script status → Ends two before now old new script status

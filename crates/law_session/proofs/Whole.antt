@@ -1,6 +1,5 @@
 -- The headline from the laws.
-use Rattle.std.proofs.Common.{◌≡◌, ℕ, ◌<◌, ◌≤◌, Bool, true, false, refl, sym, ap, ◌∙◌, subst, arith}
-use Rattle.std.specs.Prelude.{◌||◌, nat_lt, nat_eq}
+use Rattle.std.proofs.Common.{◌≡◌, ℕ, ◌≤◌, false, subst, arith}
 use Rattle.ob_shell_model.specs.Session.{is_whole}
 use Rattle.ob_shell_model.specs.Bytes as bytes
 use Rattle.ob_shell_model.specs.Model.{start, answer}

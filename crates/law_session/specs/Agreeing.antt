@@ -1,16 +1,17 @@
 -- When two kinds of sessions agree line by line.
-use Rattle.std.specs.Prelude.{◌≡◌, ℕ, ◌+◌, List, [], ◌∷◌, ◌++◌, Bool, map}
+use Rattle.std.specs.Prelude.{◌≡◌, ℕ, ◌+◌, List, ◌∷◌, map}
 use Rattle.ob_link.specs.Files.{Files}
 use Rattle.ob_shell_lines.specs.Lines.{line_of}
-use Rattle.ob_shell_model.specs.Folds.{Answer, Answers}
-use Rattle.ob_shell_model.specs.Session.{Kind}
+use Rattle.ob_shell_model.specs.Folds.{Part, Answer, Answers}
 
--- two answers print the same, and make the same changes
+-- a part with the same text, and with the changes of another kind
+abbrev pub part_as : {C D : Type 0} → (D → C) → Part D → Part C
+part_as for_each p = record { changes = map for_each p.changes; text = p.text }
+
+-- two answers have the same parts: each prints the same and makes the same changes
 pub record AreSame {W V C D : Type 0} (for_each : D → C) (a : Answer W C) (b : Answer V D) : Type 0 where
-  pub text : a.text ≡ b.text
-  pub opening : a.opening ≡ b.opening
+  pub parts : a.parts ≡ map (part_as for_each) b.parts
   pub refused : a.refused ≡ b.refused
-  pub changes : a.changes ≡ map for_each b.changes
 
 -- In related worlds, before some lines, the answers to the first are the same, and the worlds behind it are related before the
 -- others.

@@ -3,6 +3,7 @@ pub mod New
 pub mod Composing
 pub mod Kept
 pub mod Loads
+pub mod Makes
 pub mod Holds
 pub mod Named
 pub mod Chain

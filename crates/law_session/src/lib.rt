@@ -6,6 +6,7 @@ ghost use Rattle.law_session.specs.Composing.{ChecksFollow, Composes, EmptyIsKep
 ghost use Rattle.law_session.specs.Named.{ImportsAreNamed};
 ghost use Rattle.law_session.specs.Kept.{KeptCompilesAlike};
 ghost use Rattle.law_session.specs.Loads.{LoadsAlike};
+ghost use Rattle.law_session.specs.Makes.{MakesAlike};
 ghost use Rattle.law_session.specs.Holds.{HeadlineHolds as FromPromises, LinesHold};
 ghost use Rattle.law_session.specs.OneAge.{ApartAreTold, HeadlineHoldsAsCompared, HeadlineHoldsInOneAge, OneAgeStays, WorldsGiveOneAge};
 
@@ -85,6 +86,13 @@ pub fn kept_compiles_alike()
 /// that it brings in are those of the builds, which go together with the loaded ones.
 pub fn loads_alike()
     ensures { LoadsAlike }
+{}
+
+/// A law, with nothing to run: where files keep a library and all builds can be written, a make over
+/// the files has the order of a make over the library, and the same is done of each of its modules
+/// where prints tell apart what its check compares.
+pub fn makes_alike()
+    ensures { MakesAlike }
 {}
 
 /// A law, with nothing to run. Of each session with accepted words, over files that a library keeps
