@@ -3,3 +3,4 @@ pub mod Order
 pub mod Stale
 pub mod Folder
 pub mod Answers
+pub mod Filing

@@ -2,6 +2,7 @@
 #![tactic(auto)]
 
 mod fault;
+mod files;
 mod ordering;
 mod staleness;
 mod turns;
