@@ -6,9 +6,7 @@ use Rattle.ob_format.specs.Exact.{le_decides}
 use Rattle.ob_io.specs.Io.{Finds}
 use Rattle.ob_io.specs.declared.traits.FolderFault.{FolderFault}
 use Rattle.ob_io.specs.declared.traits.FolderFault.TheVariants as fault
-use Rattle.ob_env_walk.specs.Walk.{file_limit}
 use Rattle.ob_parse_grammar.specs.TextReading.{reading}
-use Rattle.ob_compile_model.specs.Compiling.{most_source}
 use Rattle.ob_cmp.specs.Check.{Present, NotThere, TooLong, Refused, There, within}
 use Rattle.ob_make.specs.Seen.{Source, NoSource, Imports}
 use Rattle.ob_make.specs.Folder.{read_as, source_of}

@@ -1,1 +1,3 @@
 pub mod Filing
+pub mod Standing
+pub mod Visits

@@ -2,8 +2,6 @@
 use Rattle.std.specs.Prelude.{◌≡◌, ◌≤◌, ℕ, cond, nat_le, List, length, Option, Some, None, Result, Ok, Err}
 use Rattle.ob_sym.specs.Grammar.{face as face_form}
 use Rattle.ob_types.specs.declared.face.Interface.{Interface}
-use Rattle.ob_compile_model.specs.Compiling.{most_source}
-use Rattle.ob_env_walk.specs.Walk.{file_limit}
 use Rattle.ob_cmp.specs.Check.{Present, NotThere, TooLong, Refused, There}
 use Rattle.ob_make.specs.Seen.{Source, NoSource, Imports}
 use Rattle.ob_make.specs.Folder.{read_as}

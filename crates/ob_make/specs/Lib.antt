@@ -4,3 +4,5 @@ pub mod Stale
 pub mod Folder
 pub mod Answers
 pub mod Filing
+pub mod Standing
+pub mod Walking

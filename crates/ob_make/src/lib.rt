@@ -3,6 +3,7 @@
 
 mod fault;
 mod files;
+mod needs;
 mod ordering;
 mod staleness;
 mod turns;
