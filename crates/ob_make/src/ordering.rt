@@ -1,6 +1,6 @@
 //! The order in which modules have their turns.
 
-ghost use Rattle.std.specs.Prelude.{◌≡◌, ◌+◌, suc, ◌∷◌, true, not, nat_le, length, reverse, OnOk};
+ghost use Rattle.std.specs.Prelude.{◌≡◌, ◌+◌, suc, [], ◌∷◌, ◌++◌, true, nat_le, length, reverse, Ok, OnOk, IsErrOf};
 ghost use Rattle.ob_link.specs.Walk.{has, visit as visited, enters, all_in_turn};
 ghost use Rattle.ob_make.specs.Order.{order as the_order, steps, newest, met_if};
 ghost use Rattle.ob_make.specs.Folder.{seen_in};
@@ -45,9 +45,20 @@ fn has_room(left: &[Name], path: &[Name]) -> bool
     left.len() < MOST_MODULES && path.len() < MOST_MODULES - left.len()
 }
 
+// Leaves a module.
+fn leave(left: &mut List<Name>, name: &Name) -> Result<(), MakeFault>
+    ensures goes { Goes (Ok (left.old ++ name.now ∷ [])) left.new result }
+    ensures folder { IsErrOf result MakeFault.Folder → ⊥ }
+{
+    if left.push(*name).is_err() {
+        return Err(MakeFault::Memory);
+    }
+    Ok(())
+}
+
 // Visits a module, unless the walk has left it or it stands on the path.
 #[cycle(visits)]
-#[tactic(auto, using(crate::proofs::Visits::none_deep, crate::proofs::Visits::passed, crate::proofs::Visits::circled, crate::proofs::Visits::entered))]
+#[tactic(auto, using(crate::proofs::Visits::none_deep, crate::proofs::Visits::passed, crate::proofs::Visits::circled_on, crate::proofs::Visits::entered_on))]
 fn visit<F: Shelf>(
     alloc: Global,
     folder: &mut F,
@@ -94,15 +105,15 @@ fn enter<F: Shelf>(
     ensures cause { MakeHasCause (F.faults folder.old) (F.faults folder.new) result }
     ensures walked { F.tells folder.old ≡ true → Goes (enters (steps (seen_in (F.files folder.old))) (visited (steps (seen_in (F.files folder.old))) deep (name.now ∷ reverse path.old.items)) (met_if (nat_le (suc (length left.old + length (reverse path.old.items))) 255) name.now) left.old) left.new result }
 {
-    if !has_room(left.as_slice(), path) {
-        return Err(MakeFault::TooMany { count: 256 });
+    if has_room(left.as_slice(), path) {
+        let needs = needs_of(alloc, folder, name)?;
+        match below(alloc, folder, deep, path, name, needs.as_slice(), left) {
+            Ok(()) => leave(left, name),
+            Err(fault) => Err(fault),
+        }
+    } else {
+        Err(MakeFault::TooMany { count: 256 })
     }
-    let needs = needs_of(alloc, folder, name)?;
-    below(alloc, folder, deep, path, name, needs.as_slice(), left)?;
-    if left.push(*name).is_err() {
-        return Err(MakeFault::Memory);
-    }
-    Ok(())
 }
 
 // Visits the needs of a module that now stands on the path.
