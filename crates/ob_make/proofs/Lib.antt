@@ -1,3 +1,8 @@
 pub mod Filing
 pub mod Standing
 pub mod Visits
+pub mod Names
+pub mod Needing
+pub mod Agreeing
+pub mod Fresh
+pub mod Orders

@@ -6,3 +6,4 @@ pub mod Answers
 pub mod Filing
 pub mod Standing
 pub mod Walking
+pub mod Laws
