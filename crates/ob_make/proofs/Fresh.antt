@@ -1,17 +1,13 @@
 -- A module that is not stale is up to date for a check.
-use Rattle.std.proofs.Common.{◌≡◌, ◌≤◌, ℕ, Bool, true, false, cond, leb, List, [], ◌∷◌, length, Option, Some, None, refl, sym, ap, subst, ◌∙◌}
-use Rattle.std.specs.Prelude.{not, ◌||◌, bytes_eq, map as each}
-use Rattle.std.specs.List.{list_any}
+use Rattle.std.proofs.Common.{◌≡◌, ℕ, Bool, true, false, cond, leb, List, [], ◌∷◌, length, Option, Some, None, refl, ap, ◌∙◌}
+use Rattle.std.specs.Prelude.{not, ◌||◌, bytes_eq}
 use Rattle.ob_format.specs.Format.{whole}
 use Rattle.ob_tree.specs.declared.print.Print.{Print}
-use Rattle.ob_tree.specs.declared.names.QName.{QName}
-use Rattle.ob_types.specs.declared.desc.Desc.{Desc}
-use Rattle.ob_types.specs.declared.face.Aspect.{Aspect}
 use Rattle.ob_obj.specs.Grammar.{file as object_form}
 use Rattle.ob_obj.specs.declared.file.ObjFile.{ObjFile}
 use Rattle.ob_env.specs.Faces.{Wanted, Face}
 use Rattle.ob_env.specs.Stale.{Found, AsWanted, IsAbsent, IsChanged, compared, prints_agree}
-use Rattle.ob_cmp.specs.Check.{Checked, IsStale, Present, NotThere, TooLong, Refused, There, stale_if, and_also, beside, in_face, checked_uses, checked, check_of, within, if_named, object_name, object_of, uses_found, symbols_of, print_of_desc}
+use Rattle.ob_cmp.specs.Check.{Checked, IsStale, Present, NotThere, TooLong, Refused, There, stale_if, and_also, beside, in_face, checked_uses, checked, check_of, within, object_name, object_of, uses_found, symbols_of, print_of_desc}
 use Rattle.ob_make.specs.Seen.{Has}
 use Rattle.ob_make.specs.Stale.{Marks, is_met, meets, fails, is_there, stale_with, is_stale}
 use Rattle.ob_make.specs.Folder.{has_of, has_found, has_in, prints, seen_in}

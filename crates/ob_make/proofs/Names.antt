@@ -1,6 +1,6 @@
 -- Names in lists.
 use Rattle.std.proofs.Common.{◌≡◌, ℕ, Bool, true, false, List, [], ◌∷◌, ◌++◌, refl, sym, ap, subst, ◌∙◌}
-use Rattle.std.specs.Prelude.{bytes_eq, cond, not, ◌||◌, ◌&&◌}
+use Rattle.std.specs.Prelude.{bytes_eq, cond, ◌||◌, ◌&&◌}
 use Rattle.std.specs.List.{filter, AllByRecursion}
 use Rattle.std.specs.Cmp.Lexicographic.{bytes_decides}
 use Rattle.ob_link.specs.Walk.{has}

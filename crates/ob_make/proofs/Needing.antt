@@ -1,5 +1,5 @@
 -- What is among the needs of a module.
-use Rattle.std.proofs.Common.{◌≡◌, ℕ, Bool, List, ◌++◌, ap, ◌∙◌}
+use Rattle.std.proofs.Common.{◌≡◌, ℕ, List, ◌++◌, ap, ◌∙◌}
 use Rattle.std.specs.Prelude.{◌||◌, ◌&&◌}
 use Rattle.ob_link.specs.Walk.{has}
 use Rattle.ob_make.specs.Seen.{Seen, needs, is_needed, object_needs, symbol_needs, source_needs}

@@ -1,13 +1,13 @@
 -- What holds of an order.
-use Rattle.std.proofs.Common.{◌≡◌, ℕ, zero, suc, ◌+◌, Bool, true, false, List, [], ◌∷◌, ◌++◌, length, Option, None, Result, Ok, Err, append_assoc, append-nil, refl, sym, ap, subst, ◌∙◌}
-use Rattle.std.specs.Prelude.{if◌then◌else◌, bytes_eq, ◌||◌, nat_le}
+use Rattle.std.proofs.Common.{◌≡◌, ℕ, zero, suc, ◌+◌, Bool, true, false, List, [], ◌∷◌, ◌++◌, length, None, Result, Ok, Err, append_assoc, append-nil, refl, sym, ap, subst, ◌∙◌}
+use Rattle.std.specs.Prelude.{if◌then◌else◌, ◌||◌, nat_le}
 use Rattle.std.specs.List.{AllByRecursion}
 use Rattle.ob_link.specs.Walk.{visit, has, enters, all_in_turn, and_then, leaves}
 use Rattle.ob_make.specs.Seen.{Seen, needs}
 use Rattle.ob_make.specs.Order.{MakeEnd, Cycle, newest, met_if, steps, order}
 use Rattle.ob_make.specs.Laws.{StandsInOrder}
 use Rattle.ob_make.proofs.Visits.{Visit, has_end, settles}
-use Rattle.ob_make.proofs.Names.{has_joined, has_left, has_right, has_first, has_later, has_none, apart, all_weaker}
+use Rattle.ob_make.proofs.Names.{has_left, has_first, has_later, has_none, apart}
 
 -- Behind those that are seen these stand in order: each for the first time, and behind its needs.
 abbrev pub Ordered : {K : Type 0} → Seen K → List (List ℕ) → List (List ℕ) → Type 0

@@ -1,12 +1,11 @@
 -- How a module stands, and its turn.
-use Rattle.std.proofs.Common.{◌≡◌, ℕ, Bool, true, false, List, ◌∷◌, refl, sym, ap, subst, ◌∙◌}
-use Rattle.std.specs.Prelude.{not, ◌&&◌, ◌||◌}
+use Rattle.std.proofs.Common.{◌≡◌, ℕ, Bool, true, false, List, refl, sym}
+use Rattle.std.specs.Prelude.{not, ◌&&◌}
 use Rattle.ob_env.specs.Faces.{Face}
 use Rattle.ob_cmp.specs.Check.{Present, NotThere, TooLong, Refused, There}
-use Rattle.ob_make.specs.Seen.{Has, Source}
-use Rattle.ob_make.specs.Stale.{Marks, stale_with, is_missing, turn_of, is_sourceless}
+use Rattle.ob_make.specs.Seen.{Has}
+use Rattle.ob_make.specs.Stale.{Marks, stale_with, is_missing, turn_of}
 use Rattle.ob_make.specs.Standing.{by_stale, state_in, is_stale_state, turn_by}
-use Rattle.ob_make.specs.declared.turns.Turn.{Turn}
 use Rattle.ob_make.specs.declared.turns.Turn.TheVariants as turn
 use Rattle.ob_make.specs.declared.staleness.State.{State}
 use Rattle.ob_make.specs.declared.staleness.State.TheVariants as state

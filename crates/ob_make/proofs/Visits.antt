@@ -1,5 +1,5 @@
 -- Steps of the walk.
-use Rattle.std.proofs.Common.{◌≡◌, ℕ, zero, suc, ◌+◌, ◌<◌, ◌≤◌, ◌-◌, Bool, true, false, List, [], ◌∷◌, ◌++◌, length, Option, None, Result, Ok, Err, append_assoc, refl, sym, ap, subst, ◌∙◌, arith}
+use Rattle.std.proofs.Common.{◌≡◌, ℕ, zero, suc, ◌+◌, ◌<◌, ◌-◌, Bool, true, false, List, [], ◌∷◌, ◌++◌, length, None, Result, Ok, Err, append_assoc, refl, sym, ap, subst, ◌∙◌, arith}
 use Rattle.std.specs.Prelude.{if◌then◌else◌, cond, reverse, bytes_eq, nat_le, ◌||◌, map as each}
 use Rattle.std.specs.List.{filter, list_any}
 use Rattle.std.proofs.lemmas.List.Sorted.{list_any-IsPermutation, IsPermutation-reverse}
@@ -9,12 +9,12 @@ use Rattle.std.proofs.lemmas.List.Elements.{filter-append}
 use Rattle.ob_env.specs.Faces.{Wanted}
 use Rattle.ob_cmp.specs.Check.{Present, NotThere, TooLong, Refused, There}
 use Rattle.ob_cmp.proofs.Merging.{eq_itself}
-use Rattle.ob_link.specs.Walk.{Steps, visit, has, enters, all_in_turn, and_then, leaves}
+use Rattle.ob_link.specs.Walk.{visit, has, enters, all_in_turn, and_then, leaves}
 use Rattle.ob_make.specs.Seen.{Has, Seen, needs, is_needed, object_needs, symbol_needs, source_needs}
 use Rattle.ob_make.specs.Walking.{Goes, begins, singled, object_lean, lean_needs}
 use Rattle.ob_make.specs.declared.fault.MakeFault.{MakeFault}
 use Rattle.ob_make.specs.declared.fault.MakeFault.TheVariants as fault
-use Rattle.ob_make.specs.Order.{MakeEnd, Cycle, TooMany, newest, met_if, steps}
+use Rattle.ob_make.specs.Order.{MakeEnd, Cycle, newest, met_if, steps}
 
 -- ---- names on the path
 

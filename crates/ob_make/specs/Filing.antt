@@ -4,7 +4,6 @@ use Rattle.ob_sym.specs.Grammar.{face as face_form}
 use Rattle.ob_types.specs.declared.face.Interface.{Interface}
 use Rattle.ob_cmp.specs.Check.{Present, NotThere, TooLong, Refused, There}
 use Rattle.ob_make.specs.Seen.{Source, NoSource, Imports}
-use Rattle.ob_make.specs.Folder.{read_as}
 use Rattle.ob_make.specs.declared.fault.MakeFault.{MakeFault}
 use Rattle.ob_make.specs.declared.fault.MakeFault.TheVariants as fault
 use Rattle.ob_make.specs.declared.files.Bytes.{Bytes}

@@ -1,5 +1,5 @@
 -- What holds of each order, of needs, and of a module that is up to date.
-use Rattle.std.specs.Prelude.{◌≡◌, ℕ, List, [], ◌∷◌, ◌++◌, Bool, true, false, ◌&&◌, ◌||◌, Option, Ok}
+use Rattle.std.specs.Prelude.{◌≡◌, ℕ, List, [], ◌∷◌, ◌++◌, true, false, ◌&&◌, ◌||◌, Option, Ok}
 use Rattle.std.specs.List.{AllByRecursion}
 use Rattle.ob_parse_grammar.specs.Identifiers.{is_identifier}
 use Rattle.ob_link.specs.Walk.{has}

@@ -1,8 +1,7 @@
 -- The walk through the needs of modules, as the code goes it.
-use Rattle.std.specs.Prelude.{◌≡◌, ℕ, List, [], ◌∷◌, ◌++◌, Bool, true, false, cond, map as each, bytes_eq, Result, Ok, Err}
+use Rattle.std.specs.Prelude.{◌≡◌, ℕ, List, [], ◌∷◌, ◌++◌, Bool, false, cond, map as each, bytes_eq, Result, Ok, Err}
 use Rattle.std.specs.List.{filter}
 use Rattle.ob_cmp.specs.Check.{Present, NotThere, TooLong, Refused, There}
-use Rattle.ob_env.specs.Faces.{Wanted}
 use Rattle.ob_make.specs.Seen.{Has, Seen, is_needed, symbol_needs, source_needs}
 use Rattle.ob_make.specs.Order.{MakeEnd, Cycle, TooMany}
 use Rattle.ob_make.specs.declared.fault.MakeFault.{MakeFault}

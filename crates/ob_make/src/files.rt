@@ -207,11 +207,7 @@ fn named_source(
 }
 
 // What a text is as the source of a module.
-fn as_source(
-    alloc: Global,
-    text: &[u8],
-    module: &Name,
-) -> Result<Option<List<Name>>, MakeFault>
+fn as_source(alloc: Global, text: &[u8], module: &Name) -> Result<Option<List<Name>>, MakeFault>
     requires { length text.now ≤ 1048576 }
     ensures seen { AnswersBy sourced (read_as «module».now (reading text.now)) result }
     ensures folder { IsErrOf result MakeFault.Folder → ⊥ }

@@ -219,11 +219,7 @@ fn is_stale_state(state: State) -> bool
 ///
 /// It answers `Folder` only where the folder failed and its count of faults rose, and neither `Cycle` nor
 /// `TooMany`. The files stay as they are.
-pub fn stale<F: Shelf>(
-    alloc: Global,
-    folder: &mut F,
-    module: &Name,
-) -> Result<bool, MakeFault>
+pub fn stale<F: Shelf>(alloc: Global, folder: &mut F, module: &Name) -> Result<bool, MakeFault>
     ensures told { F.tells folder.new ≡ F.tells folder.old }
     ensures files { F.tells folder.old ≡ true → F.files folder.new ≡ F.files folder.old }
     ensures stale { F.tells folder.old ≡ true → AnswersAs (is_stale prints (seen_in (F.files folder.old)) «module».now) result }

@@ -1,9 +1,9 @@
-use Rattle.std.proofs.Common.{◌≡◌, ◌++◌, ℕ, List, sym, ap, subst, ◌∙◌}
+use Rattle.std.proofs.Common.{◌++◌, ℕ, List, sym, ap, subst, ◌∙◌}
 use Rattle.std.specs.Prelude.{codes}
 use Rattle.ob_format.specs.Format.{whole}
 use Rattle.ob_sym.specs.Grammar.{face as form}
 use Rattle.ob_env.specs.Faces.{face_of}
-use Rattle.ob_cmp.specs.Check.{Present, symbols_of, face_found}
+use Rattle.ob_cmp.specs.Check.{symbols_of, face_found}
 use Rattle.ob_make.specs.Filing.{AnswersBy, bytes_seen, seen, onto}
 use Rattle.ob_make.proofs.Filing.{within_is}
 use Rattle.ob_make.proofs.files.find_face.Goals as goal

@@ -1,9 +1,8 @@
-use Rattle.std.proofs.Common.{◌≡◌, ◌++◌, ℕ, List, sym, ap, subst, ◌∙◌}
+use Rattle.std.proofs.Common.{◌++◌, ℕ, List, sym, ap, subst, ◌∙◌}
 use Rattle.std.specs.Prelude.{codes}
 use Rattle.ob_format.specs.Format.{whole}
 use Rattle.ob_obj.specs.Grammar.{file as form}
 use Rattle.ob_make.specs.Folder.{has_in, has_found, has_of}
-use Rattle.ob_cmp.specs.Check.{Present}
 use Rattle.ob_make.specs.Filing.{AnswersBy, bytes_seen, seen, onto}
 use Rattle.ob_make.proofs.Filing.{within_is}
 use Rattle.ob_make.proofs.files.find_file.Goals as goal
