@@ -6,3 +6,4 @@ pub mod Needing
 pub mod Agreeing
 pub mod Fresh
 pub mod Orders
+pub mod Kept

@@ -72,3 +72,20 @@ none_kept false = refl
 pub has_filter : (p : List ℕ → Bool) (n : List ℕ) (xs : List (List ℕ)) → has n (filter p xs) ≡ (p n && has n xs)
 has_filter p n [] = none_kept (p n)
 has_filter p n (x ∷ xs) = kept_by p n x xs (has_filter p n xs) (p x) refl (bytes_eq n x) refl
+
+-- ---- where a name stands
+
+abbrev pub StandsIn : List ℕ → List (List ℕ) → Type 0
+StandsIn x xs = (front : List (List ℕ)) × (back : List (List ℕ)) × (xs ≡ front ++ x ∷ back)
+
+stands_by : (x y : List ℕ) (ys : List (List ℕ)) → (has x ys ≡ true → StandsIn x ys) → (b : Bool) → bytes_eq x y ≡ b → (b || has x ys) ≡ true → StandsIn x (y ∷ ys)
+stands_by x y ys more true e h = ([], ys, ap (λ z. z ∷ ys) (sym ((bytes_decides x y).0 e)))
+stands_by x y ys more false e h = let r = more h in (y ∷ r.0, r.1, ap (λ l. y ∷ l) r.2)
+
+pub stands_in : (x : List ℕ) (xs : List (List ℕ)) → has x xs ≡ true → StandsIn x xs
+stands_in x [] h = absurd cc
+stands_in x (y ∷ ys) h = stands_by x y ys (stands_in x ys) (bytes_eq x y) refl h
+
+pub all_joined : (P : List ℕ → Type 0) (xs ys : List (List ℕ)) → AllByRecursion P xs → AllByRecursion P ys → AllByRecursion P (xs ++ ys)
+all_joined P [] ys a b = b
+all_joined P (x ∷ xs) ys a b = (a.0, all_joined P xs ys a.1 b)
