@@ -1,5 +1,4 @@
 pub mod Filing
-pub mod Standing
 pub mod Visits
 pub mod Names
 pub mod Needing

@@ -16,11 +16,12 @@ pub record StandsInOrder {K : Type 0} (s : Seen K) (m : List ℕ) (xs : List (Li
   pub last : xs ≡ others ++ m ∷ []
   pub behind : (front back : List (List ℕ)) (x : List ℕ) → xs ≡ front ++ x ∷ back → AllByRecursion (λ n. has n front ≡ true) (needs s x)
 
--- where there is an order, it is one
+-- Where a make has an order, its modules stand so.
 abbrev pub OrderStands : Type 0 → Type 0
 OrderStands K = (s : Seen K) (m : List ℕ) (xs : List (List ℕ)) → order s m ≡ Ok xs → StandsInOrder s m xs
 
--- A module is a need exactly where it stands among the needs of the object file, of the symbol file or of the source, and is needed at all.
+-- A module is a need exactly where it stands among the needs of the object file, of the symbol file or of the source, and is neither the module
+-- itself nor Out.
 abbrev pub NeedsAreAll : Type 0 → Type 0
 NeedsAreAll K = (s : Seen K) (x n : List ℕ) → has n (needs s x) ≡ (is_needed x n && (has n (object_needs (s.object x)) || (has n (symbol_needs (s.symbols x)) || has n (source_needs (s.source x)))))
 
