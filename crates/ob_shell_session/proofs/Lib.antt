@@ -1,5 +1,6 @@
 pub mod Goings
 pub mod Decoded
+pub mod Parts
 pub mod Said
 pub mod Fine
 pub mod Commands
