@@ -1,3 +1,5 @@
+pub mod Orders
+pub mod Makes
 pub mod Goings
 pub mod Decoded
 pub mod Parts

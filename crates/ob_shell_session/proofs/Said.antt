@@ -93,7 +93,7 @@ demo_world s w n (Some x) = refl
 demo_world s w n None = refl
 
 demo_silent : (s : Settings) (w : World) (n : ℕ) (x : Making) → Silent (demo_answer s w n x).parts
-demo_silent s w n (Some x) = (refl, refl, tt)
+demo_silent s w n (Some x) = (refl, (refl, tt))
 demo_silent s w n None = (refl, tt)
 
 -- what the line of a demo does

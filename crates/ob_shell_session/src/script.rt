@@ -21,7 +21,6 @@ use ob_words::{Settings, WordsFault, settings};
 use std::alloc::Global;
 
 // Does a line, and flushes the sink.
-#[tactic(auto, using(crate::proofs::Goings::flush_failed))]
 fn do_flushed<F: Folder, C: Compile, O: Sink>(
     alloc: Global,
     settings: Settings,
