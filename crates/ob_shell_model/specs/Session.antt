@@ -35,8 +35,9 @@ abbrev pub changes_up_to : {C : Type 0} → List (Part C) → ℕ → ℕ → Li
 changes_up_to ps whole made = made_by (take whole ps) ++ take made (part_at whole ps).changes
 
 -- Of these parts of a line so many were done whole, and of the next one a piece of its text was written and the first so many of its
--- changes were made. Where memory was wanting nothing of that one was done, and at least one was left if there are any; where the folder failed nothing
--- of it was written; where the sink failed all its changes were made; where the script failed nothing of the line was done.
+-- changes were made. Where memory was wanting nothing of that one was done, and at least one was left, if the line has parts; where the
+-- folder failed nothing of it was written; where the sink failed all its changes were made; where the script failed nothing of the line
+-- was done.
 pub record PartsCut {C : Type 0} (ps : List (Part C)) (make : List C → Files) (before now : List ℕ) (new : Files) (status : ℕ) : Type 0 where
   pub whole : ℕ
   pub piece : List ℕ

@@ -3,8 +3,6 @@ use Rattle.std.proofs.Common.{◌≡◌, ℕ, zero, suc, ◌+◌, ◌-◌, ◌�
 use Rattle.std.specs.Prelude.{codes}
 use Rattle.std.proofs.lemmas.Fmt.{length-decimal-le}
 use Rattle.std.proofs.lemmas.List.{append-nil}
-use Rattle.ob_tree.specs.declared.print.Print.{Print}
-use Rattle.ob_obj.specs.declared.file.ObjFile.{ObjFile}
 use Rattle.ob_io.specs.Io.{AddsFront, put}
 use Rattle.ob_io.specs.Fronts.{same_functions}
 use Rattle.ob_io.specs.Kept.{file_in}
@@ -12,8 +10,7 @@ use Rattle.ob_types.specs.declared.face.Interface.{Interface}
 use Rattle.ob_sym.specs.Grammar.{face as face_form}
 use Rattle.ob_machine.specs.Machine.{Held, made}
 use Rattle.ob_demo.specs.Source.{module_name, source}
-use Rattle.ob_link.specs.Files.{Files, file_plan}
-use Rattle.ob_link.specs.Plan.{Refusal}
+use Rattle.ob_link.specs.Files.{Files}
 use Rattle.ob_load.specs.Standing.{Standing}
 use Rattle.ob_shell_reports.specs.declared.stop.Stop.{Stop}
 use Rattle.ob_shell_reports.specs.declared.stop.Stop.TheVariants.{Sink, Folder, Memory}
@@ -22,7 +19,7 @@ use Rattle.ob_shell_reports.specs.Texts.{demo_text}
 use Rattle.ob_words.specs.declared.asked.Settings.{Settings}
 use Rattle.ob_shell_model.specs.Folds.{Part, Answer, printed_by}
 use Rattle.ob_shell_model.specs.Session.{first_part}
-use Rattle.ob_shell_model.specs.Bytes.{World, Change, Making, changed, start, no_files, load_answer, command_answer, source_name, compiled_file, made_of, made_one, and_more, demo_from, demo_made, demo_answer, demo_ran}
+use Rattle.ob_shell_model.specs.Bytes.{World, Change, Making, changed, start, no_files, command_answer, source_name, compiled_file, made_of, made_one, and_more, demo_from, demo_made, demo_answer, demo_ran}
 use Rattle.ob_shell_session.specs.Does.{Shows, OneDoes, IsOne, SaidDoes, TextDoes, MakesSo, said_of}
 use Rattle.ob_shell_session.proofs.Parts.{front_from}
 use Rattle.ob_shell_session.proofs.Commands.{command_one}

@@ -3,8 +3,7 @@ use Rattle.std.proofs.Common.{◌≡◌, ℕ, ◌+◌, ◌-◌, List, [], ◌∷
 use Rattle.std.specs.Prelude.{◌||◌, cond, Result, Some, None}
 use Rattle.std.proofs.lemmas.Bool.{false≢true}
 use Rattle.std.proofs.lemmas.List.{append-nil, length-append}
-use Rattle.ob_io.specs.Io.{AddsFront, SameFiles}
-use Rattle.ob_io.specs.Fronts.{front_whole}
+use Rattle.ob_io.specs.Io.{SameFiles}
 use Rattle.ob_obj.specs.declared.file.ObjFile.{ObjFile}
 use Rattle.ob_tree.specs.declared.print.Print.{Print}
 use Rattle.ob_link.specs.Plan.{Refusal}
@@ -20,7 +19,7 @@ use Rattle.ob_shell_lines.specs.Lines.{Line, lines_of, line_of, within, exceeds,
 use Rattle.ob_shell_lines.specs.Splits.{Stops, GoesOn}
 use Rattle.ob_shell_input.specs.declared.next.NextFault.TheVariants as fault
 use Rattle.ob_shell_input.specs.declared.next.Next.TheVariants as next
-use Rattle.ob_shell_model.specs.Folds.{Part, Answer, Answers, part, printed_by, made_by, text_from, refused_from, world_from, changes_from, session_text, session_changes}
+use Rattle.ob_shell_model.specs.Folds.{Part, Answer, Answers, printed_by, made_by, text_from, refused_from, world_from, changes_from, session_text, session_changes}
 use Rattle.ob_shell_model.specs.Bytes.{World, Change, Making, answer, start, changed, compile_answer, load_answer, demo_answer, demo_made, compiled_in}
 use Rattle.ob_shell_session.specs.Does.{Shows, LineDoes, PartsStop}
 use Rattle.ob_shell_input.specs.Reading.{NextDoes, ended}
@@ -37,8 +36,7 @@ use Rattle.ob_shell_session.proofs.Makes.{make_files}
 flush_parts : (ps : List (Part Change)) (before now : List ℕ) (old there : Files) → now ≡ before ++ printed_by ps → SameFiles there (changed old (made_by ps)) → PartsStop ps before now old there Sink
 flush_parts ps before now old there e f =
     let k = length ps in
-    let p = drop_all ps in
-    (
+    let p = drop_all ps in (
       k,
       record {
         front = [];

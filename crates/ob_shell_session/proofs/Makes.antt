@@ -18,7 +18,7 @@ use Rattle.ob_compile_model.specs.Compiling as compile
 use Rattle.ob_compile_model.specs.Compiling.{Compiled}
 use Rattle.ob_shell_reports.specs.Texts.{refused, no_source, made_text}
 use Rattle.ob_shell_model.specs.Folds.{Part, Answer, part, printed_by, made_by}
-use Rattle.ob_shell_model.specs.Making.{Maker, turn_at, by_turn, in_turn, behind, and_on, behind_turns, made_so, made_in, make_answer, end_text}
+use Rattle.ob_shell_model.specs.Making.{turn_at, by_turn, in_turn, behind, and_on, behind_turns, made_in, make_answer, end_text}
 use Rattle.ob_shell_model.specs.Bytes.{World, Change, changed, maker, compile_answer, compiled_in, says, told, denied}
 use Rattle.ob_shell_model.specs.Session.{first_part}
 use Rattle.ob_shell_reports.specs.declared.stop.Stop.{Stop}

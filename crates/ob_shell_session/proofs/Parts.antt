@@ -1,15 +1,15 @@
 -- Lines by their parts: one part, and one part before others.
-use Rattle.std.proofs.Common.{◌≡◌, ℕ, suc, ◌+◌, ◌≤◌, List, [], ◌∷◌, ◌++◌, length, take, drop, Bool, true, refl, sym, ap, ◌∙◌, subst, append_assoc, Result, Ok, Err, arith}
+use Rattle.std.proofs.Common.{◌≡◌, ℕ, suc, ◌+◌, List, [], ◌∷◌, ◌++◌, length, take, drop, Bool, refl, sym, ap, ◌∙◌, subst, append_assoc, Result, Ok, Err, arith}
 use Rattle.std.proofs.lemmas.List.{append-nil}
-use Rattle.ob_io.specs.Io.{AddsFront, SameFiles, put}
+use Rattle.ob_io.specs.Io.{AddsFront, put}
 use Rattle.ob_link.specs.Files.{Files}
 use Rattle.ob_load.specs.Standing.{Standing}
 use Rattle.ob_shell_reports.specs.declared.stop.Stop.{Stop}
 use Rattle.ob_shell_reports.specs.declared.stop.Stop.TheVariants.{Sink, Folder, Memory}
 use Rattle.ob_shell_model.specs.Folds.{Part, Answer, part, printed_by, made_by}
 use Rattle.ob_shell_model.specs.Bytes.{World, Change, changed}
-use Rattle.ob_shell_model.specs.Session.{first_part, part_at, changes_up_to}
-use Rattle.ob_shell_session.specs.Does.{Shows, LineDoes, PartsStop, OneDoes, FilesDo, IsOne}
+use Rattle.ob_shell_model.specs.Session.{first_part, part_at}
+use Rattle.ob_shell_session.specs.Does.{LineDoes, PartsStop, OneDoes, FilesDo, IsOne}
 
 -- LISTS
 
@@ -60,8 +60,7 @@ stop_behind p ps before mid now old there files Sink m t d =
     let k = d.0 in
     let q = printed_by (take k ps) in
     let c = made_by (take k ps) in
-    let l = (part_at k ps).changes in
-    (
+    let l = (part_at k ps).changes in (
       suc k,
       front_from (mid ++ q) (before ++ (p.text ++ q)) now (part_at k ps).text (sym (append_assoc before p.text q) ∙ ap (λ x. x ++ q) (sym m)) d.1,
       d.2 ∙ ap (λ (x : Files). changed x (c ++ l)) t ∙ sym (changed_more p.changes (c ++ l) old) ∙ ap (changed old) (sym (append_assoc p.changes c l)),
@@ -70,8 +69,7 @@ stop_behind p ps before mid now old there files Folder m t d =
     let k = d.0 in
     let q = printed_by (take k ps) in
     let c = made_by (take k ps) in
-    let l = take d.1 (part_at k ps).changes in
-    (
+    let l = take d.1 (part_at k ps).changes in (
       suc k,
       d.1,
       d.2 ∙ ap (λ x. x ++ q) m ∙ append_assoc before p.text q,
@@ -81,8 +79,7 @@ stop_behind p ps before mid now old there files Memory m t d =
     let k = d.0 in
     let q = printed_by (take k ps) in
     let c = made_by (take k ps) in
-    let h = d.1 in
-    (
+    let h = d.1 in (
       suc k,
       omega (arith, h),
       d.2 ∙ ap (λ x. x ++ q) m ∙ append_assoc before p.text q,

@@ -1,5 +1,5 @@
 -- What a line does, by what it says and by what it does to the files.
-use Rattle.std.proofs.Common.{◌≡◌, ℕ, zero, suc, List, [], ◌∷◌, ◌++◌, take, Bool, true, refl, sym, ap, ◌∙◌, subst, append_assoc, Result, Ok, Err, Some, None, arith}
+use Rattle.std.proofs.Common.{◌≡◌, ℕ, zero, suc, List, [], ◌∷◌, ◌++◌, take, Bool, true, refl, sym, ap, ◌∙◌, subst, append_assoc, Result, Ok, Err, Some, None}
 use Rattle.ob_tree.specs.declared.print.Print.{Print}
 use Rattle.ob_link.specs.Files.{Files}
 use Rattle.ob_load.specs.Standing.{Standing}
@@ -13,7 +13,7 @@ use Rattle.ob_shell_model.specs.Folds.{Part, Answer, made_by}
 use Rattle.ob_shell_model.specs.Bytes.{World, Change, Said, Making, changed, says, check_said, compile_answer, demo_answer}
 use Rattle.ob_words.specs.declared.asked.Settings.{Settings}
 use Rattle.ob_shell_model.specs.Session.{first_part, part_at}
-use Rattle.ob_shell_session.specs.Does.{Shows, LineDoes, OneDoes, IsOne, PartsStop, SaidDoes, AnswerDo, TextDoes}
+use Rattle.ob_shell_session.specs.Does.{Shows, LineDoes, OneDoes, IsOne, SaidDoes, AnswerDo, TextDoes}
 use Rattle.ob_shell_session.proofs.Parts.{one_line}
 
 -- a text that was printed

@@ -7,8 +7,7 @@ use Rattle.ob_link.specs.Files.{Files}
 use Rattle.ob_env_walk.specs.Walk.{symbol_name}
 use Rattle.ob_cmp.specs.Check.{check_of}
 use Rattle.ob_shell_reports.specs.Texts.{unknown_text}
-use Rattle.ob_shell_model.specs.Bytes.{answer, compared, shown, check_said, denied, told, command_answer, compiled_in, demo_made, maker}
-use Rattle.ob_shell_model.specs.Making.{make_answer}
+use Rattle.ob_shell_model.specs.Bytes.{answer, compared, shown, check_said, denied, told, command_answer, compiled_in, demo_made}
 use Rattle.ob_shell_session.specs.Does.{LineDoes}
 use Rattle.ob_shell_model.specs.Files.{sym_file}
 use Rattle.ob_shell_session.proofs.Fine.{fine_demo}

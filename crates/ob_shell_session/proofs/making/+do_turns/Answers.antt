@@ -1,4 +1,4 @@
-use Rattle.std.proofs.Common.{◌≡◌, ◌+◌, ◌-◌, ◌≤◌, ◌∷◌, ◌∙◌, [], List, ℕ, length, take, drop, ap, sym, subst, arith, refl, Err}
+use Rattle.std.proofs.Common.{◌≡◌, ◌+◌, ◌-◌, ◌≤◌, ◌∷◌, ◌∙◌, [], List, length, take, drop, ap, arith, refl, Err}
 use Rattle.ob_tree.specs.declared.name.Name.{Name}
 use Rattle.ob_make.specs.declared.turns.Turn.TheVariants as turn
 use Rattle.ob_shell_reports.proofs.Along.{front_is}
