@@ -1,5 +1,5 @@
 -- How a session ends: whole, or cut short.
-use Rattle.std.specs.Prelude.{◌≡◌, ℕ, ◌+◌, ◌≤◌, List, [], ◌∷◌, ◌++◌, Bool, true, false, ◌||◌, nat_lt, nat_eq, length, take, drop}
+use Rattle.std.specs.Prelude.{◌≡◌, ℕ, ◌+◌, ◌-◌, ◌≤◌, List, [], ◌∷◌, ◌++◌, Bool, true, false, ◌||◌, nat_lt, nat_eq, length, take, drop}
 use Rattle.ob_io.specs.Io.{SameFiles}
 use Rattle.ob_link.specs.Files.{Files}
 use Rattle.ob_shell_lines.specs.Lines.{done_lines, line_of}
@@ -35,8 +35,9 @@ abbrev pub changes_up_to : {C : Type 0} → List (Part C) → ℕ → ℕ → Li
 changes_up_to ps whole made = made_by (take whole ps) ++ take made (part_at whole ps).changes
 
 -- Of these parts of a line so many were done whole, and of the next one a piece of its text was written and the first so many of its
--- changes were made. Where memory was wanting nothing of that one was done, and at least one was left; where the folder failed nothing
--- of it was written; where the sink failed all its changes were made; where the script failed nothing of the line was done.
+-- changes were made. Where memory was wanting nothing of that one was done, and at least one was left, if the line has parts; where the
+-- folder failed nothing of it was written; where the sink failed all its changes were made; where the script failed nothing of the line
+-- was done.
 pub record PartsCut {C : Type 0} (ps : List (Part C)) (make : List C → Files) (before now : List ℕ) (new : Files) (status : ℕ) : Type 0 where
   pub whole : ℕ
   pub piece : List ℕ
@@ -46,7 +47,7 @@ pub record PartsCut {C : Type 0} (ps : List (Part C)) (make : List C → Files) 
   pub front : (part_at whole ps).text ≡ piece ++ left
   pub files : SameFiles new (make (changes_up_to ps whole made))
   pub sink : status ≡ 4 → length (part_at whole ps).changes ≤ made
-  pub memory : status ≡ 5 → (made ≡ 0) × (piece ≡ []) × (whole + 1 ≤ length ps)
+  pub memory : status ≡ 5 → (made ≡ 0) × (piece ≡ []) × (whole ≤ length ps - 1)
   pub folder : status ≡ 6 → piece ≡ []
   pub read : status ≡ 3 → (whole ≡ 0) × (made ≡ 0) × (piece ≡ [])
 

@@ -1,28 +1,28 @@
 -- What the line of a demo comes to, by what was made and run.
-use Rattle.std.proofs.Common.{◌≡◌, ℕ, zero, suc, ◌+◌, ◌-◌, ◌≤◌, List, [], ◌∷◌, ◌++◌, length, Bool, true, false, refl, sym, ap, ◌∙◌, subst, append_assoc, Result, Ok, Err, Option, Some, None, inr, ⊎_elim, arith}
-use Rattle.std.specs.Prelude.{◌⊎◌, codes}
+use Rattle.std.proofs.Common.{◌≡◌, ℕ, zero, suc, ◌+◌, ◌-◌, ◌≤◌, List, [], ◌∷◌, ◌++◌, length, Bool, true, false, refl, sym, ap, ◌∙◌, subst, append_assoc, Result, Ok, Err, Option, Some, None, arith}
+use Rattle.std.specs.Prelude.{codes}
 use Rattle.std.proofs.lemmas.Fmt.{length-decimal-le}
 use Rattle.std.proofs.lemmas.List.{append-nil}
-use Rattle.ob_tree.specs.declared.print.Print.{Print}
-use Rattle.ob_obj.specs.declared.file.ObjFile.{ObjFile}
-use Rattle.ob_io.specs.Io.{put}
-use Rattle.ob_io.specs.Fronts.{front_more, front_later, same_functions}
+use Rattle.ob_io.specs.Io.{AddsFront, put}
+use Rattle.ob_io.specs.Fronts.{same_functions}
 use Rattle.ob_io.specs.Kept.{file_in}
 use Rattle.ob_types.specs.declared.face.Interface.{Interface}
 use Rattle.ob_sym.specs.Grammar.{face as face_form}
 use Rattle.ob_machine.specs.Machine.{Held, made}
 use Rattle.ob_demo.specs.Source.{module_name, source}
-use Rattle.ob_link.specs.Files.{Files, file_plan}
-use Rattle.ob_link.specs.Plan.{Refusal}
+use Rattle.ob_link.specs.Files.{Files}
 use Rattle.ob_load.specs.Standing.{Standing}
 use Rattle.ob_shell_reports.specs.declared.stop.Stop.{Stop}
 use Rattle.ob_shell_reports.specs.declared.stop.Stop.TheVariants.{Sink, Folder, Memory}
 use Rattle.ob_shell_reports.specs.Prints.{PrintDoes}
 use Rattle.ob_shell_reports.specs.Texts.{demo_text}
 use Rattle.ob_words.specs.declared.asked.Settings.{Settings}
-use Rattle.ob_shell_model.specs.Folds.{Answer}
-use Rattle.ob_shell_model.specs.Bytes.{World, Change, Making, changed, start, no_files, load_answer, command_answer, source_name, compiled_file, made_of, made_one, and_more, demo_from, demo_made, demo_answer, demo_ran}
-use Rattle.ob_shell_session.specs.Does.{Shows, LineDoes, TextDoes, MakesSo}
+use Rattle.ob_shell_model.specs.Folds.{Part, Answer, printed_by}
+use Rattle.ob_shell_model.specs.Session.{first_part}
+use Rattle.ob_shell_model.specs.Bytes.{World, Change, Making, changed, start, no_files, command_answer, source_name, compiled_file, made_of, made_one, and_more, demo_from, demo_made, demo_answer, demo_ran}
+use Rattle.ob_shell_session.specs.Does.{Shows, OneDoes, IsOne, SaidDoes, TextDoes, MakesSo, said_of}
+use Rattle.ob_shell_session.proofs.Parts.{front_from}
+use Rattle.ob_shell_session.proofs.Commands.{command_one}
 
 -- THE MODULES
 
@@ -54,20 +54,23 @@ goes_done n (suc more) i objects files all h e = absurd (omega (arith, h))
 
 -- THE COMMAND
 
-no_opening : (s : Settings) (w : World) (m name : List ℕ) (r : Result (List ObjFile) (Refusal Print)) → (load_answer s w m name r).opening ≡ []
-no_opening s w m name (Ok files) = refl
-no_opening s w m name (Err r) = refl
+one_text : (a : Answer World Change) → IsOne a → printed_by a.parts ≡ (first_part a.parts).text
+one_text a e = ap (λ (x : List (Part Change)). printed_by x) e ∙ append-nil (first_part a.parts).text
 
-command_opening : (s : Settings) (w : World) (m name : List ℕ) → (command_answer s w m name).opening ≡ []
-command_opening s w m name = no_opening s w m name (file_plan w.files w.loaded m name)
+one_says : (a : Answer World Change) (before now : List ℕ) (files files2 : Files) (system : Standing) (result : Result Bool Stop) → IsOne a → OneDoes before now files files2 system a result → SaidDoes true before now (said_of a) result
+one_says a before now files files2 system (Ok r) e d = (λ t. d.0 ∙ ap (λ x. before ++ x) (sym (one_text a e)), d.2)
+one_says a before now files files2 system (Err Sink) e d = λ t. subst (λ x. AddsFront before now x) (sym (one_text a e)) d.0
+one_says a before now files files2 system (Err Folder) e d = λ t. d.0
+one_says a before now files files2 system (Err Memory) e d = λ t. d.0
 
 -- behind its first line
-ran_text : (w : World) (opening : List ℕ) (a : Answer World Change) (before mid now : List ℕ) (result : Result Bool Stop) → a.opening ≡ [] → mid ≡ before ++ opening → TextDoes mid now a result → TextDoes before now (demo_ran w opening a) result
-ran_text w opening a before mid now (Ok r) o m d = (d.0 ∙ ap (λ x. x ++ a.text) m ∙ append_assoc before opening a.text, d.1)
-ran_text w opening a before mid now (Err Sink) o m d = front_later before mid now opening a.text m d
-ran_text w opening a before mid now (Err Folder) o m d = absurd d
-ran_text w opening a before mid now (Err Memory) o m d =
-    ⊎_elim (λ e. inr (e ∙ m)) (λ e. inr (e ∙ ap (λ x. mid ++ x) o ∙ append-nil mid ∙ m)) d
+ran_text : (w : World) (opening : List ℕ) (a : Answer World Change) (before mid now : List ℕ) (result : Result Bool Stop) → mid ≡ before ++ opening → (result ≡ Err Folder → ⊥) → SaidDoes true mid now (said_of a) result → TextDoes before now (demo_ran w opening a) result
+ran_text w opening a before mid now (Ok r) m n d =
+    let t = printed_by a.parts in
+    (d.0 refl ∙ ap (λ x. x ++ t) m ∙ append_assoc before opening t ∙ ap (λ x. before ++ (opening ++ x)) (sym (append-nil t)), d.1)
+ran_text w opening a before mid now (Err Sink) m n d = (1, front_from mid (before ++ (opening ++ [])) now (printed_by a.parts) (ap (λ x. before ++ x) (append-nil opening) ∙ sym m) (d refl))
+ran_text w opening a before mid now (Err Folder) m n d = absurd (n refl)
+ran_text w opening a before mid now (Err Memory) m n d = (1, omega arith, d refl ∙ m ∙ ap (λ x. before ++ x) (sym (append-nil opening)))
 
 -- A FILE IN MEMORY
 
@@ -102,21 +105,21 @@ fresh s files x e m = record {
 
 -- the first line was cut short
 pub opening_cut : (told : Bool) (s : Settings) (w : World) (n objects : ℕ) (files : Files) (before now : List ℕ) (stop : Stop) → told ≡ true → PrintDoes told before now (demo_text n objects) false (Err stop) → TextDoes before now (demo_answer s w n (Some (objects, files))) (Err stop)
-opening_cut told s w n objects files before now Sink t p = front_more before now (demo_text n objects) (command_answer s (start s files) (module_name n) (codes "Go")).text (p t)
+opening_cut told s w n objects files before now Sink t p = (0, front_from before (before ++ []) now (demo_text n objects) (append-nil before) (p t))
 opening_cut told s w n objects files before now Folder t p = absurd p
 opening_cut told s w n objects files before now Memory t p = absurd p
 
 -- the command behind the first line, over the files that were made
-pub command_text : (s : Settings) (w : World) (n objects : ℕ) (files : Files) (name before mid now : List ℕ) (result : Result Bool Stop) → name ≡ module_name n → mid ≡ before ++ demo_text n objects → TextDoes mid now (command_answer s (start s files) name (codes "Go")) result → TextDoes before now (demo_answer s w n (Some (objects, files))) result
-command_text s w n objects files name before mid now result e m d =
-    ran_text w (demo_text n objects) (command_answer s (start s files) (module_name n) (codes "Go")) before mid now result (command_opening s (start s files) (module_name n) (codes "Go")) m
-    (subst (λ (y : List ℕ). TextDoes mid now (command_answer s (start s files) y (codes "Go")) result) e d)
+pub command_text : (s : Settings) (w : World) (n objects : ℕ) (files : Files) (name before mid now : List ℕ) (result : Result Bool Stop) → name ≡ module_name n → mid ≡ before ++ demo_text n objects → (result ≡ Err Folder → ⊥) → SaidDoes true mid now (said_of (command_answer s (start s files) name (codes "Go"))) result → TextDoes before now (demo_answer s w n (Some (objects, files))) result
+command_text s w n objects files name before mid now result e m un d =
+    ran_text w (demo_text n objects) (command_answer s (start s files) (module_name n) (codes "Go")) before mid now result m un
+    (subst (λ (y : List ℕ). SaidDoes true mid now (said_of (command_answer s (start s files) y (codes "Go"))) result) e d)
 
 -- the line of the command, in whatever way it ended
-pub went : (s : Settings) (w : World) (name command before now : List ℕ) (files files2 : Files) (system : Standing) (result other : Result Bool Stop) → result ≡ other → command ≡ codes "Go" → LineDoes before now files files2 system (command_answer s w name command) result → LineDoes before now files files2 system (command_answer s w name (codes "Go")) other
+pub went : (s : Settings) (w : World) (name command before now : List ℕ) (files files2 : Files) (system : Standing) (result other : Result Bool Stop) → result ≡ other → command ≡ codes "Go" → OneDoes before now files files2 system (command_answer s w name command) result → SaidDoes true before now (said_of (command_answer s w name (codes "Go"))) other
 went s w name command before now files files2 system result other e f d =
-    subst (λ (y : List ℕ). LineDoes before now files files2 system (command_answer s w name y) other) f
-    (subst (λ (r : Result Bool Stop). LineDoes before now files files2 system (command_answer s w name command) r) e d)
+    subst (λ (y : List ℕ). SaidDoes true before now (said_of (command_answer s w name y)) other) f
+    (subst (λ (r : Result Bool Stop). SaidDoes true before now (said_of (command_answer s w name command)) r) e (one_says (command_answer s w name command) before now files files2 system result (command_one s w name command) d))
 
 -- the text of a demo whose modules were made
 pub demo_is : (s : Settings) (w : World) (n : ℕ) (m : Making) (x : ℕ × Files) (before now : List ℕ) (result : Result Bool Stop) → m ≡ Some x → TextDoes before now (demo_answer s w n (Some x)) result → TextDoes before now (demo_answer s w n m) result

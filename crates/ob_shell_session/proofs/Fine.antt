@@ -3,13 +3,14 @@ use Rattle.std.proofs.Common.{◌≡◌, ℕ, ◌+◌, ◌-◌, ◌*◌, ◌≤�
 use Rattle.std.specs.Prelude.{nat_le, ◌&&◌}
 use Rattle.std.proofs.lemmas.Bool.{leb-true, and_parts}
 use Rattle.ob_parse_grammar.specs.Identifiers.{is_identifier}
-use Rattle.ob_shell_lines.specs.Lines.{Line, Compile, Compare, Check, Show, Demo, Command, Unknown, Nothing, when, demo_line, count_of, number_if, up_to_sixty, is_first_digit, is_digit, dotted, is_dot, line_of_two, line_of_words, line_of, words_of, without_return, is_file_name}
+use Rattle.ob_shell_lines.specs.Lines.{Line, Compile, Compare, Check, Show, Make, Demo, Command, Unknown, Nothing, when, demo_line, count_of, number_if, up_to_sixty, is_first_digit, is_digit, dotted, is_dot, line_of_two, line_of_words, line_of, words_of, without_return, is_file_name}
 
 abbrev pub IsFine : Line → Type 0
 IsFine (Compile file) = Unit {0}
 IsFine (Compare old new) = Unit {0}
 IsFine (Check m) = Unit {0}
 IsFine (Show m) = Unit {0}
+IsFine (Make m) = Unit {0}
 IsFine (Demo n) = (1 ≤ n) × (n ≤ 60)
 IsFine (Command m command) = Unit {0}
 IsFine Unknown = Unit {0}
@@ -50,13 +51,15 @@ fine_dotted word (Some i) = fine_when (is_identifier (take i word) && is_identif
 
 fine_words_of_two : (word other : List ℕ) → IsFine (line_of_two word other)
 fine_words_of_two word other =
-    let show = cond (bytes_eq word (codes "demo")) (demo_line (count_of other)) Unknown in
+    let make = cond (bytes_eq word (codes "demo")) (demo_line (count_of other)) Unknown in
+    let show = cond (bytes_eq word (codes "make")) (when (is_identifier other) (Make other)) make in
     let check = cond (bytes_eq word (codes "show")) (when (is_identifier other) (Show other)) show in
     let compile = cond (bytes_eq word (codes "check")) (when (is_identifier other) (Check other)) check in
     fine_if (bytes_eq word (codes "compile")) (when (is_file_name other) (Compile other)) compile (fine_when (is_file_name other) (Compile other) tt)
     (fine_if (bytes_eq word (codes "check")) (when (is_identifier other) (Check other)) check (fine_when (is_identifier other) (Check other) tt)
     (fine_if (bytes_eq word (codes "show")) (when (is_identifier other) (Show other)) show (fine_when (is_identifier other) (Show other) tt)
-    (fine_if (bytes_eq word (codes "demo")) (demo_line (count_of other)) Unknown (fine_count other) tt)))
+    (fine_if (bytes_eq word (codes "make")) (when (is_identifier other) (Make other)) make (fine_when (is_identifier other) (Make other) tt)
+    (fine_if (bytes_eq word (codes "demo")) (demo_line (count_of other)) Unknown (fine_count other) tt))))
 
 fine_words : (ws : List (List ℕ)) → IsFine (line_of_words ws)
 fine_words [] = tt

@@ -1,5 +1,8 @@
+pub mod Orders
+pub mod Makes
 pub mod Goings
 pub mod Decoded
+pub mod Parts
 pub mod Said
 pub mod Fine
 pub mod Commands

@@ -3,7 +3,7 @@
 ghost use Rattle.std.specs.Prelude.{◌≡◌, true};
 ghost use Rattle.ob_shell_model.specs.Bytes.{World, command_answer};
 ghost use Rattle.ob_shell_session.specs.Running.{is_cut};
-ghost use Rattle.ob_shell_session.specs.Does.{Shows, LineDoes, Cause};
+ghost use Rattle.ob_shell_session.specs.Does.{Shows, OneDoes, Cause};
 
 use ob_io::{Folder, Sink};
 use ob_link::LoadFault;
@@ -36,7 +36,7 @@ pub fn do_command<F: Folder, O: Sink>(
     command: &Name,
     out: &mut O,
 ) -> Result<bool, Stop>
-    ensures does { (w : World) → Shows system.old (F.files folder.old) w → F.tells folder.old ≡ true → O.tells out.old ≡ true → LineDoes (O.taken out.old) (O.taken out.new) (F.files folder.old) (F.files folder.new) system.new (command_answer settings w name.now command.now) result }
+    ensures does { (w : World) → Shows system.old (F.files folder.old) w → F.tells folder.old ≡ true → O.tells out.old ≡ true → OneDoes (O.taken out.old) (O.taken out.new) (F.files folder.old) (F.files folder.new) system.new (command_answer settings w name.now command.now) result }
     ensures told_folder { F.tells folder.new ≡ F.tells folder.old }
     ensures told_sink { O.tells out.new ≡ O.tells out.old }
     ensures cause { Cause (O.faults out.old) (O.faults out.new) (F.faults folder.old) (F.faults folder.new) result }

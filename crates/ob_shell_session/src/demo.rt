@@ -8,7 +8,7 @@ ghost use Rattle.ob_demo.specs.Source.{module_name};
 ghost use Rattle.ob_link.specs.Files.{Files, object_file_name};
 ghost use Rattle.ob_shell_reports.specs.Prints.{SinkCause};
 ghost use Rattle.ob_shell_model.specs.Bytes.{World, source_name, changed, start, command_answer, made_of, made_one, compiled_file, demo_answer, demo_made};
-ghost use Rattle.ob_shell_session.specs.Does.{Shows, TextDoes, MakesSo, AreFew};
+ghost use Rattle.ob_shell_session.specs.Does.{Shows, SaidDoes, TextDoes, MakesSo, AreFew, said_of};
 
 use crate::commanding::do_command;
 use crate::files::{object_file, symbol_file};
@@ -165,7 +165,7 @@ fn run_command<O: Sink>(
     out: &mut O,
 ) -> Result<bool, Stop>
     requires system { (files : Files) → Shows system.old files (start settings files) }
-    ensures does { O.tells out.old ≡ true → TextDoes (O.taken out.old) (O.taken out.new) (command_answer settings (start settings (file_in folder.old.pairs)) name.now (codes "Go")) result }
+    ensures does { O.tells out.old ≡ true → SaidDoes true (O.taken out.old) (O.taken out.new) (said_of (command_answer settings (start settings (file_in folder.old.pairs)) name.now (codes "Go"))) result }
     ensures told { O.tells out.new ≡ O.tells out.old }
     ensures cause { SinkCause (O.faults out.old) (O.faults out.new) result }
 {

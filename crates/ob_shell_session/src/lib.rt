@@ -9,6 +9,7 @@ mod demo;
 mod files;
 mod found;
 mod line;
+mod making;
 mod saying;
 mod script;
 

@@ -9,6 +9,7 @@ use crate::commanding::do_command;
 use crate::comparing::{do_check, do_compare, do_show};
 use crate::compiling::do_compile;
 use crate::demo::do_demo;
+use crate::making::do_make;
 use crate::saying::do_unknown;
 use ob_compile_trait::Compile;
 use ob_io::{Folder, Sink};
@@ -41,6 +42,7 @@ pub fn do_line<F: Folder, C: Compile, O: Sink>(
         LineWords::Compare(old, new) => do_compare(alloc, folder, old, new, out),
         LineWords::Check(name) => do_check(alloc, folder, &name, out),
         LineWords::Show(name) => do_show(alloc, folder, &name, out),
+        LineWords::Make(name) => do_make(alloc, folder, compiler, &name, out),
         LineWords::Demo(count) => do_demo(alloc, settings, count, compiler, out),
         LineWords::Command(name, command) => {
             do_command(alloc, settings, system, folder, &name, &command, out)

@@ -21,7 +21,6 @@ use ob_words::{Settings, WordsFault, settings};
 use std::alloc::Global;
 
 // Does a line, and flushes the sink.
-#[tactic(auto, using(crate::proofs::Goings::flush_failed))]
 fn do_flushed<F: Folder, C: Compile, O: Sink>(
     alloc: Global,
     settings: Settings,
@@ -165,7 +164,8 @@ fn run_script<F: Folder, C: Compile, I: Source, O: Sink>(
 /// Does the lines of a script over the files of a folder, into a sink, as the words ask for it and
 /// with this compiler: a session, by the bytes of files alone. The script is read by pieces of 4,096
 /// bytes, and a line is done when its byte 10 has come, or the script's end. The sink is flushed
-/// after each line.
+/// after each line. A line `make` compiles what is stale of a module and of what it needs, in order; one
+/// that is cut short has compiled the modules before whole.
 ///
 /// The status is 0 or 1 where all lines were done, 2 where the words are refused, 7 where a line or
 /// the script is too long, and 3, 4, 5 or 6 where the script, the sink, memory or the folder cut the

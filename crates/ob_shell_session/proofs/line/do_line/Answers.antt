@@ -7,11 +7,13 @@ use Rattle.ob_link.specs.Files.{Files}
 use Rattle.ob_env_walk.specs.Walk.{symbol_name}
 use Rattle.ob_cmp.specs.Check.{check_of}
 use Rattle.ob_shell_reports.specs.Texts.{unknown_text}
-use Rattle.ob_shell_model.specs.Bytes.{answer, compared, shown, check_said, denied, told, compile_answer, compiled_in, demo_answer, demo_made}
+use Rattle.ob_shell_model.specs.Bytes.{answer, compared, shown, check_said, denied, told, command_answer, compiled_in, demo_made}
 use Rattle.ob_shell_session.specs.Does.{LineDoes}
 use Rattle.ob_shell_model.specs.Files.{sym_file}
 use Rattle.ob_shell_session.proofs.Fine.{fine_demo}
-use Rattle.ob_shell_session.proofs.Said.{said_by, said_line, files_line, compile_world, text_line, printed, demo_world, demo_changes}
+use Rattle.ob_shell_session.proofs.Said.{said_by, said_line, compile_line, demo_line, printed}
+use Rattle.ob_shell_session.proofs.Parts.{one_line}
+use Rattle.ob_shell_session.proofs.Commands.{command_one}
 use Rattle.ob_shell_session.proofs.line.do_line.Goals as goal
 
 pub returns-in-Compile-clause-does : goal.returns-in-Compile-clause-does
@@ -19,7 +21,7 @@ returns-in-Compile-clause-does g c = λ w h tf to.
     let e : line_of c.args.line.now ≡ line.Compile c.in-Compile.file.now = sym c.words_of.ensures ∙ ap line_view c.in-Compile.is in
     let r = compiled_in w (w.files c.in-Compile.file.now) in
     subst (λ (l : Line). LineDoes (g.O.Sink.taken c.args.out.now) (g.O.Sink.taken c.do_compile.new.out) (g.F.Shelf.files c.args.folder.now) (g.F.Shelf.files c.do_compile.new.folder) c.args.system.now (answer c.args.settings w c.args.n l) c.do_compile.result) (sym e)
-    (files_line w (compile_answer w c.in-Compile.file.now r) (g.O.Sink.taken c.args.out.now) (g.O.Sink.taken c.do_compile.new.out) (g.F.Shelf.files c.args.folder.now) (g.F.Shelf.files c.do_compile.new.folder) c.args.system.now c.do_compile.result h (compile_world w c.in-Compile.file.now r) (c.do_compile.ensures.does w h.files tf to))
+    (compile_line w c.in-Compile.file.now r (g.O.Sink.taken c.args.out.now) (g.O.Sink.taken c.do_compile.new.out) (g.F.Shelf.files c.args.folder.now) (g.F.Shelf.files c.do_compile.new.folder) c.args.system.now c.do_compile.result h (c.do_compile.ensures.does w h.files tf to))
 
 pub returns-in-Compare-clause-does : goal.returns-in-Compare-clause-does
 returns-in-Compare-clause-does g c = λ w h tf to.
@@ -39,6 +41,12 @@ returns-in-Show-clause-does g c = λ w h tf to.
     subst (λ (l : Line). LineDoes (g.O.Sink.taken c.args.out.now) (g.O.Sink.taken c.do_show.new.out) (g.F.Shelf.files c.args.folder.now) (g.F.Shelf.files c.do_show.new.folder) c.args.system.now (answer c.args.settings w c.args.n l) c.do_show.result) (sym e)
     (said_by (g.O.Sink.tells c.args.out.now) w (λ (f : Files). shown (symbol_name c.in-Show.name) (sym_file f (symbol_name c.in-Show.name))) (g.O.Sink.taken c.args.out.now) (g.O.Sink.taken c.do_show.new.out) (g.F.Shelf.files c.args.folder.now) (g.F.Shelf.files c.do_show.new.folder) c.args.system.now c.do_show.result to h (c.do_show.ensures.files tf) (c.do_show.ensures.does tf))
 
+pub returns-in-Make-clause-does : goal.returns-in-Make-clause-does
+returns-in-Make-clause-does g c = λ w h tf to.
+    let e : line_of c.args.line.now ≡ line.Make c.in-Make.name = sym c.words_of.ensures ∙ ap line_view c.in-Make.is in
+    subst (λ (l : Line). LineDoes (g.O.Sink.taken c.args.out.now) (g.O.Sink.taken c.do_make.new.out) (g.F.Shelf.files c.args.folder.now) (g.F.Shelf.files c.do_make.new.folder) c.args.system.now (answer c.args.settings w c.args.n l) c.do_make.result) (sym e)
+    (c.do_make.ensures.does w c.args.system.now h tf to)
+
 pub do_demo-requires-clause-first : goal.do_demo-requires-clause-first
 do_demo-requires-clause-first g c = (fine_demo c.args.line.now c.in-Demo.count (sym c.words_of.ensures ∙ ap line_view c.in-Demo.is)).0
 
@@ -48,15 +56,14 @@ do_demo-requires-clause-few g c = (fine_demo c.args.line.now c.in-Demo.count (sy
 pub returns-in-Demo-clause-does : goal.returns-in-Demo-clause-does
 returns-in-Demo-clause-does g c = λ w h tf to.
     let e : line_of c.args.line.now ≡ line.Demo c.in-Demo.count = sym c.words_of.ensures ∙ ap line_view c.in-Demo.is in
-    let a = demo_answer c.args.settings w c.in-Demo.count (demo_made c.in-Demo.count) in
     subst (λ (l : Line). LineDoes (g.O.Sink.taken c.args.out.now) (g.O.Sink.taken c.do_demo.new.out) (g.F.Shelf.files c.args.folder.now) (g.F.Shelf.files c.args.folder.now) c.args.system.now (answer c.args.settings w c.args.n l) c.do_demo.result) (sym e)
-    (text_line w a (g.O.Sink.taken c.args.out.now) (g.O.Sink.taken c.do_demo.new.out) (g.F.Shelf.files c.args.folder.now) c.args.system.now c.do_demo.result h (demo_world c.args.settings w c.in-Demo.count (demo_made c.in-Demo.count)) (demo_changes c.args.settings w c.in-Demo.count (demo_made c.in-Demo.count)) (c.do_demo.ensures.does w to))
+    (demo_line c.args.settings w c.in-Demo.count (demo_made c.in-Demo.count) (g.O.Sink.taken c.args.out.now) (g.O.Sink.taken c.do_demo.new.out) (g.F.Shelf.files c.args.folder.now) c.args.system.now c.do_demo.result h (c.do_demo.ensures.does w to))
 
 pub returns-in-Command-clause-does : goal.returns-in-Command-clause-does
 returns-in-Command-clause-does g c = λ w h tf to.
     let e : line_of c.args.line.now ≡ line.Command c.in-Command.name c.in-Command.command = sym c.words_of.ensures ∙ ap line_view c.in-Command.is in
     subst (λ (l : Line). LineDoes (g.O.Sink.taken c.args.out.now) (g.O.Sink.taken c.do_command.new.out) (g.F.Shelf.files c.args.folder.now) (g.F.Shelf.files c.do_command.new.folder) c.do_command.new.system (answer c.args.settings w c.args.n l) c.do_command.result) (sym e)
-    (c.do_command.ensures.does w h tf to)
+    (one_line (command_answer c.args.settings w c.in-Command.name c.in-Command.command) (g.O.Sink.taken c.args.out.now) (g.O.Sink.taken c.do_command.new.out) (g.F.Shelf.files c.args.folder.now) (g.F.Shelf.files c.do_command.new.folder) c.do_command.new.system c.do_command.result (command_one c.args.settings w c.in-Command.name c.in-Command.command) (c.do_command.ensures.does w h tf to))
 
 pub returns-in-Unknown-clause-does : goal.returns-in-Unknown-clause-does
 returns-in-Unknown-clause-does g c = λ w h tf to.
