@@ -22,7 +22,7 @@ use Rattle.ob_shell_reports.specs.declared.stop.Stop.{Stop}
 use Rattle.ob_shell_reports.specs.Prints.{PrintDoes}
 use Rattle.ob_shell_reports.specs.Texts.{refused, compile_refused, compile_reason, reason_answered, unread_text, walk_text, unmet_text, compiled_line}
 use Rattle.ob_shell_reports.specs.declared.counts.Counts.{Counts}
-use Rattle.ob_shell_model.specs.Bytes.{World, Change, changed, compile_answer, counted, denied}
+use Rattle.ob_shell_model.specs.Bytes.{World, Change, compile_answer, counted, denied}
 use Rattle.ob_shell_session.specs.Counting.{counts_between}
 use Rattle.ob_shell_session.specs.Does.{FilesDo, AnswerDo, ChangesDo}
 use Rattle.ob_shell_model.specs.Files.{SymFile, stood}
