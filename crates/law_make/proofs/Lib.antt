@@ -1,2 +1,5 @@
+pub mod Names
 pub mod Ordered
 pub mod Exactly
+pub mod Turns
+pub mod UpToDate

@@ -2,6 +2,7 @@
 #![tactic(auto)]
 
 ghost use Rattle.law_make.specs.Making.{MakesCompileExactly};
+ghost use Rattle.law_make.specs.UpToDate.{MakesBringUpToDate};
 ghost use Rattle.ob_shell_model.specs.Bytes.{maker as of_bytes};
 ghost use Rattle.ob_shell_model.specs.Model.{maker as of_meaning};
 
@@ -11,4 +12,10 @@ ghost use Rattle.ob_shell_model.specs.Model.{maker as of_meaning};
 pub fn makes_compile_exactly()
     ensures bytes { MakesCompileExactly of_bytes }
     ensures meaning { MakesCompileExactly of_meaning }
+{}
+
+/// A law, with nothing to run: behind a make line that has an order and is not refused, a check of
+/// each module of the order that was not passed over finds it up to date.
+pub fn makes_bring_up_to_date()
+    ensures { MakesBringUpToDate }
 {}
