@@ -2,4 +2,8 @@ pub mod Names
 pub mod Ordered
 pub mod Exactly
 pub mod Turns
+pub mod From
+pub mod Walked
+pub mod Replaced
+pub mod Does
 pub mod UpToDate

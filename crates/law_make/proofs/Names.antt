@@ -83,3 +83,8 @@ has_filter test n (x ∷ xs) h t = go (bytes_eq n x) refl (test x) refl h (λ k.
 pub all_named : {A : Type 0} (name : A → List ℕ) (Q : List ℕ → Type 0) (us : List A) → ((n : List ℕ) → has n (each name us) ≡ true → Q n) → AllByRecursion (λ u. Q (name u)) us
 all_named name Q [] h = tt
 all_named name Q (u ∷ us) h = (h (name u) (or_first (bytes_eq (name u) (name u)) (has (name u) (each name us)) (bytes_itself (name u))), all_named name Q us (λ n k. h n (or_second (bytes_eq n (name u)) (has n (each name us)) k)))
+
+-- what holds of each name of a list
+pub all_there : (Q : List ℕ → Type 0) (ns : List (List ℕ)) → ((n : List ℕ) → has n ns ≡ true → Q n) → AllByRecursion Q ns
+all_there Q [] h = tt
+all_there Q (m ∷ ns) h = (h m (or_first (bytes_eq m m) (has m ns) (bytes_itself m)), all_there Q ns (λ n k. h n (or_second (bytes_eq n m) (has n ns) k)))
