@@ -1,4 +1,4 @@
--- What a compile over files does, where what it writes is read again.
+-- What a compile over files does, where what it writes is read again: it replaces the two files of its module.
 use Rattle.std.proofs.Common.{◌≡◌, ℕ, List, [], ◌∷◌, ◌++◌, Bool, true, false, cond, length, refl, sym, ap, ◌∙◌, subst, codes, Option, Some, None, Result, Ok, Err}
 use Rattle.std.specs.Prelude.{nat_le, bytes_eq, map as each}
 use Rattle.std.specs.Option.{option_map}
@@ -34,81 +34,11 @@ use Rattle.ob_shell_model.specs.Bytes.{World, Change, maker, changed, files_of, 
 use Rattle.law_builds.proofs.Compiled.{comes, short}
 use Rattle.law_builds.proofs.Faces.{face_back, uses_back}
 use Rattle.law_lists.proofs.Lists.{bytes_itself, same_bytes, all_both}
-use Rattle.law_make.proofs.From.{ComesSo, comes_so}
+use Rattle.law_make.proofs.Entries.{found_there, entry_named}
+use Rattle.law_make.proofs.From.{ComesSo}
 use Rattle.law_make.proofs.Walked.{IsFound, all_found}
 use Rattle.law_make.proofs.Replaced.{two, source_stays, object_stays, symbols_stay, object_is, symbols_are}
-use Rattle.law_make.proofs.Turns.{Does, AllDo}
-
--- ---- entries of a walk are the symbol files that are seen
-
-abbrev held_or : Face Print → Entry Print → Face Print
-held_or d Missing = d
-held_or d Junk = d
-held_or d (Holds f) = f
-
-abbrev is_held : Entry Print → Bool
-is_held Missing = false
-is_held Junk = false
-is_held (Holds f) = true
-
-abbrev held : Present (Face Print) → Entry Print
-held NotThere = Missing
-held TooLong = Junk
-held Refused = Junk
-held (There f) = Holds f
-
-held_same : (files : Files) (n : List ℕ) → symbol_entry files n ≡ held (symbols_of files n)
-unfolding symbol_entry symbols_of
-held_same files n = go (files (symbol_name n))
-  where
-    by_name : (i : Interface) (b : Bool) → cond b (Holds (face_of i)) Junk ≡ held (cond b (There (face_of i)) Refused)
-    by_name i true = refl
-    by_name i false = refl
-
-    by_form : (o : Option Interface) → named_face n o ≡ held (face_found n o)
-    by_form None = refl
-    by_form (Some i) = by_name i (bytes_eq n i.«module»)
-
-    by_length : (b : Bool) (bytes : List ℕ) → cond b (named_face n (whole face_form bytes)) Junk ≡ held (cond b (face_found n (whole face_form bytes)) TooLong)
-    by_length true bytes = by_form (whole face_form bytes)
-    by_length false bytes = refl
-
-    go : (o : Option (List ℕ)) → entry_from n o ≡ held (within (λ bytes. face_found n (whole face_form bytes)) o)
-    go None = refl
-    go (Some bytes) = by_length (nat_le (length bytes) file_limit) bytes
-
-there_by : (p : Present (Face Print)) (f : Face Print) → held p ≡ Holds f → p ≡ There f
-there_by NotThere f e = absurd (false≢true (ap is_held e))
-there_by TooLong f e = absurd (false≢true (ap is_held e))
-there_by Refused f e = absurd (false≢true (ap is_held e))
-there_by (There g) f e = ap (λ (y : Face Print). There y) (ap (held_or g) e)
-
-found_there : (files : Files) (n : List ℕ) (f : Face Print) → symbol_entry files n ≡ Holds f → symbols_of files n ≡ There f
-found_there files n f e = there_by (symbols_of files n) f (sym (held_same files n) ∙ e)
-
-there_found : (files : Files) (n : List ℕ) (f : Face Print) → symbols_of files n ≡ There f → symbol_entry files n ≡ Holds f
-there_found files n f e = held_same files n ∙ ap held e
-
--- an interface is found under its own name
-entry_named : (files : Files) (n : List ℕ) (f : Face Print) → symbol_entry files n ≡ Holds f → f.«module» ≡ n
-unfolding symbol_entry
-entry_named files n f e = go (files (symbol_name n)) e
-  where
-    by_name : (i : Interface) (b : Bool) → bytes_eq n i.«module» ≡ b → cond b (Holds (face_of i)) Junk ≡ Holds f → f.«module» ≡ n
-    by_name i true k e = ap (λ (g : Face Print). g.«module») (sym (ap (held_or f) e)) ∙ sym (same_bytes n i.«module» k)
-    by_name i false k e = absurd (false≢true (ap is_held e))
-
-    by_form : (o : Option Interface) → named_face n o ≡ Holds f → f.«module» ≡ n
-    by_form None e = absurd (false≢true (ap is_held e))
-    by_form (Some i) e = by_name i (bytes_eq n i.«module») refl e
-
-    by_length : (b : Bool) (bytes : List ℕ) → cond b (named_face n (whole face_form bytes)) Junk ≡ Holds f → f.«module» ≡ n
-    by_length true bytes e = by_form (whole face_form bytes) e
-    by_length false bytes e = absurd (false≢true (ap is_held e))
-
-    go : (o : Option (List ℕ)) → entry_from n o ≡ Holds f → f.«module» ≡ n
-    go None e = absurd (false≢true (ap is_held e))
-    go (Some bytes) e = by_length (nat_le (length bytes) file_limit) bytes e
+use Rattle.law_make.proofs.Turns.{Does}
 
 -- ---- the uses of a module
 
@@ -153,9 +83,6 @@ kept_in F (f ∷ fs) h u e = go (bytes_eq u.object.«module» f.«module») refl
 abbrev pub IsReadAgain : Compiled Print → Type 0
 IsReadAgain c = (whole object_form (object_bytes prints c) ≡ Some (object_by prints c)) × (whole face_form (symbol_bytes prints c) ≡ Some (interface_by prints c))
 
-abbrev pub AreReadAgain : Type 0
-AreReadAgain = (files : Files) (source : Option (List ℕ)) (c : Compiled Print) → compiled prints (symbol_entry files) source ≡ Ok c → IsReadAgain c
-
 module _ (v : World) (x : List ℕ) (ms : List (List ℕ)) (c : Compiled Print) (is : compiled_in v (v.files (source_name x)) ≡ Ok c) (again : IsReadAgain c) (k : ComesSo prints (symbol_entry v.files) x ms c) where
   abbrev now : World
   now = record v { files = changed v.files (files_of c) }
@@ -195,7 +122,10 @@ module _ (v : World) (x : List ℕ) (ms : List (List ℕ)) (c : Compiled Print) 
   at_once : (nothing : (n : List ℕ) → true ≡ true) → AllByRecursion (λ u. meets marks u (symbols_of v.files u.object.«module») ≡ true) c.shows.uses
   at_once nothing = (each_use (λ n. true) (λ n h e o. refl) (λ p n f t s h e o. refl) c.shows.uses uses_kept).0
 
-  does_so : Does maker v x ms now
+  pub symbol_now : (seen_in (changed v.files (files_of c))).symbols x ≡ There (face_of (interface_by prints c))
+  symbol_now = ap (λ f. (seen_in f).symbols x) files_are ∙ symbols_are v.files x (object_bytes prints c) (symbol_bytes prints c) (interface_by prints c) small.1 again.1 (sym module_is)
+
+  pub does_so : Does maker v x ms now
   does_so =
       record {
         not_out = k.not_out;
@@ -205,15 +135,8 @@ module _ (v : World) (x : List ℕ) (ms : List (List ℕ)) (c : Compiled Print) 
         shows = has_in (object_by prints c);
         object = ap (λ f. (seen_in f).object x) files_are ∙ object_is v.files x (object_bytes prints c) (symbol_bytes prints c) (object_by prints c) small.0 again.0 (sym (ap (λ (y : Compiled Print). y.tree.name) k.is ∙ k.name));
         face = face_of (interface_by prints c);
-        symbol = ap (λ f. (seen_in f).symbols x) files_are ∙ symbols_are v.files x (object_bytes prints c) (symbol_bytes prints c) (interface_by prints c) small.1 again.1 (sym module_is);
+        symbol = symbol_now;
         imports = λ n h o. k.imports n (ap (λ (y : Compiled Print). has n y.shows.imports) (sym k.is) ∙ h);
         met = subst (λ us. AllByRecursion (λ u. meets marks u (symbols_of v.files u.object.«module») ≡ true) us) (sym uses_are) (at_once (λ n. refl));
         near = λ test first onward. subst (λ us. AllByRecursion (λ u. test u.object.«module» ≡ true) us) (sym uses_are) (each_use test first onward c.shows.uses uses_kept).1;
       }
-
-pub all_do : AreReadAgain → AllDo maker (λ w. Unit {0})
-all_do again v x ms i s h = go (compiled_in v (v.files (source_name x))) refl h
-  where
-    go : (r : Result (Compiled Print) (compile.Refusal Print)) → compiled_in v (v.files (source_name x)) ≡ r → (compile_answer v (source_name x) r).refused ≡ false → Does maker v x ms (compile_answer v (source_name x) r).world × Unit {0}
-    go (Err r) e h = absurd (false≢true (sym h))
-    go (Ok c) e h = (does_so v x ms c e (again v.files (v.files (source_name x)) c e) (comes_so prints (symbol_entry v.files) x ms c (v.files (source_name x)) s e), tt)

@@ -5,5 +5,8 @@ pub mod Turns
 pub mod From
 pub mod Walked
 pub mod Replaced
+pub mod Entries
+pub mod Bare
 pub mod Does
+pub mod Spelled
 pub mod UpToDate
