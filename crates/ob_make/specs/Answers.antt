@@ -1,9 +1,8 @@
 -- What the calls of this crate answer.
-use Rattle.std.specs.Prelude.{◌≡◌, ℕ, ◌≤◌, List, Bool, Result, Ok, Err, IsErrOf}
+use Rattle.std.specs.Prelude.{◌≡◌, ℕ, ◌≤◌, List, Result, Ok, Err, IsErrOf}
 use Rattle.ob_io.specs.Io.{Rose}
 use Rattle.ob_make.specs.declared.fault.MakeFault.{MakeFault}
 use Rattle.ob_make.specs.declared.fault.MakeFault.TheVariants as fault
-use Rattle.ob_make.specs.declared.turns.Turn.{Turn}
 use Rattle.ob_make.specs.Order.{MakeEnd, Cycle, TooMany}
 
 -- the order, or why there is none; want of memory and a failed folder say nothing

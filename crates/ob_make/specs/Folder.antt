@@ -9,7 +9,7 @@ use Rattle.ob_env.specs.Faces.{wanted_of}
 use Rattle.ob_env.specs.Stale.{prints_agree}
 use Rattle.ob_parse_grammar.specs.TextReading.{NoModule, reading}
 use Rattle.ob_compile_model.specs.Compiling.{imported, most_source}
-use Rattle.ob_cmp.specs.Check.{Present, NotThere, TooLong, Refused, There, within, if_named, object_name, symbols_of, print_of_desc}
+use Rattle.ob_cmp.specs.Check.{Present, Refused, within, if_named, object_name, symbols_of, print_of_desc}
 use Rattle.ob_make.specs.Seen.{Has, Source, NoSource, Imports, Seen}
 use Rattle.ob_make.specs.Stale.{Marks}
 

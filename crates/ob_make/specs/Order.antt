@@ -1,5 +1,5 @@
 -- The order in which modules have their turns.
-use Rattle.std.specs.Prelude.{ℕ, suc, ◌+◌, List, [], ◌∷◌, Bool, true, false, nat_le, length, Option, None, Result, Ok, Err}
+use Rattle.std.specs.Prelude.{ℕ, suc, ◌+◌, List, [], ◌∷◌, Bool, true, false, nat_le, length, None, Result, Ok, Err}
 use Rattle.ob_link.specs.Walk.{Steps, has, visit}
 use Rattle.ob_make.specs.Seen.{Seen, needs}
 

@@ -2,7 +2,6 @@
 -- prints, and for libraries, whose uses keep texts.
 use Rattle.std.specs.Prelude.{ℕ, List, [], ◌++◌, Bool, not, ◌&&◌, map as each, bytes_eq, codes}
 use Rattle.std.specs.List.{filter}
-use Rattle.ob_tree.specs.declared.names.QName.{QName}
 use Rattle.ob_env.specs.Faces.{Wanted, Face}
 use Rattle.ob_cmp.specs.Check.{Present, NotThere, TooLong, Refused, There}
 

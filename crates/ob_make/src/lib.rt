@@ -2,11 +2,15 @@
 #![tactic(auto)]
 
 mod fault;
+mod files;
+mod law;
+mod needs;
 mod ordering;
 mod staleness;
 mod turns;
 
 pub use fault::MakeFault;
+pub use law::{fresh_is_up_to_date, needs_are_all, order_stands, orders_agree};
 pub use ordering::order;
 pub use staleness::{stale, turn};
 pub use turns::Turn;

@@ -1,32 +1,264 @@
 //! Whether a module is stale, and what is done of it at its turn.
 
-ghost use Rattle.std.specs.Prelude.{◌≡◌, true};
-ghost use Rattle.ob_make.specs.Stale.{is_stale, turn_in};
-ghost use Rattle.ob_make.specs.Folder.{seen_in, prints};
+ghost use Rattle.std.specs.Prelude.{◌≡◌, true, ◌||◌, not, map as each, OnOk, bytes_eq, Option};
+ghost use Rattle.std.specs.Option.{option_copied};
+ghost use Rattle.ob_sym.specs.Grammar.{face as face_form};
+ghost use Rattle.ob_env.specs.Faces.{wanted_of, face_of};
+ghost use Rattle.ob_env.specs.Found.{carried_print};
+ghost use Rattle.ob_env.specs.Stale.{compared, prints_agree};
+ghost use Rattle.ob_cmp.specs.Rising.{object_at};
+ghost use Rattle.ob_cmp.specs.Check.{print_of_desc, symbols_of, in_face};
+ghost use Rattle.ob_make.specs.Stale.{fails, is_met, is_stale, is_there, meets, turn_in};
+ghost use Rattle.ob_make.specs.Folder.{has_of, seen_in, prints};
 ghost use Rattle.ob_make.specs.Answers.{AnswersAs, MakeHasCause};
+ghost use Rattle.ob_make.specs.Filing.{IsFaceOf, seen};
+ghost use Rattle.ob_make.specs.Standing.{Refreshes, by_stale, is_stale_state, state_in, turn_by};
 
 use crate::fault::MakeFault;
+use crate::files::{Filed, find_face, find_file, find_source};
 use crate::turns::Turn;
+use ob_cmp::find_object;
 use ob_io::Shelf;
-use ob_tree::Name;
+use ob_obj::ObjFile;
+use ob_tree::{Name, ObjName, Print};
+use ob_types::{Aspect, Interface, Object, Use};
 use std::alloc::Global;
+
+/// How a module stands before its source is looked at.
+#[derive(Clone, Copy, PartialEq, Eq, Drop)]
+pub enum State {
+    /// It has no object file.
+    Missing,
+    /// It has an object file, and is stale.
+    Stale,
+    /// It is up to date.
+    Fresh,
+}
+
+// The print of an aspect.
+fn carried(object: &Object, aspect: Aspect) -> Option<Print>
+    ensures { result ≡ carried_print object.now aspect }
+{
+    match aspect {
+        Aspect::Shape => Some(object.shape),
+        Aspect::Layout => object.layout,
+    }
+}
+
+// An object of an interface that has a symbol file.
+#[tactic(auto, using(ob_cmp::proofs::Seen::rising))]
+fn object_in<'a>(face: &'a Interface, name: &ObjName) -> Option<&'a Object>
+    requires { face_form.fits face.now }
+    ensures { option_copied result ≡ object_at name.now face.now.objects }
+{
+    find_object(face.objects.as_slice(), name)
+}
+
+// The print of the object and aspect of a use in the interface of its module.
+fn present(face: &Interface, of: &Use) -> Option<Print>
+    requires fits { face_form.fits face.now }
+    requires named { face.now.«module» ≡ of.now.object.«module» }
+    ensures { result ≡ in_face print_of_desc (face_of face.now) of.now.object of.now.aspect }
+{
+    match object_in(face, &of.object.object) {
+        None => None,
+        Some(object) => carried(object, of.aspect),
+    }
+}
+
+fn agrees(of: &Use, found: Option<Print>) -> bool
+    ensures { result ≡ is_met (compared prints_agree of.now.print found) }
+{
+    match found {
+        None => false,
+        Some(print) => of.print.0 == print.0,
+    }
+}
+
+// Whether the symbol file of its module meets a use.
+fn meets(face: &Filed<Interface>, of: &Use) -> bool
+    requires { IsFaceOf of.now.object.«module» face.now }
+    ensures { result ≡ meets prints (wanted_of of.now) (seen face_of face.now) }
+{
+    match face {
+        Filed::Absent => false,
+        Filed::Long => false,
+        Filed::Damaged => false,
+        Filed::Holds(face) => agrees(of, present(face, of)),
+    }
+}
+
+// Reads the symbol file of a module, unless it was the last that was read.
+fn refresh<F: Shelf>(
+    alloc: Global,
+    folder: &mut F,
+    read: &mut Name,
+    face: &mut Filed<Interface>,
+    name: &Name,
+) -> Result<(), MakeFault>
+    requires of { IsFaceOf read.old face.old }
+    requires read { F.tells folder.old ≡ true → symbols_of (F.files folder.old) read.old ≡ seen face_of face.old }
+    ensures told { F.tells folder.new ≡ F.tells folder.old }
+    ensures files { F.tells folder.old ≡ true → F.files folder.new ≡ F.files folder.old }
+    ensures refreshed { F.tells folder.old ≡ true → Refreshes (symbols_of (F.files folder.old) name.now) face.new result }
+    ensures read { OnOk result (read.new ≡ name.now) }
+    ensures of { OnOk result (IsFaceOf name.now face.new) }
+    ensures cause { MakeHasCause (F.faults folder.old) (F.faults folder.new) result }
+{
+    if read.as_bytes() == name.as_bytes() {
+        return Ok(());
+    }
+    let found = find_face(alloc, folder, name)?;
+    *face = found;
+    *read = *name;
+    Ok(())
+}
+
+// Whether one of these uses is not met. The symbol file of the module is given. The uses of a module stand
+// together, so its file is read once.
+fn fails<F: Shelf>(
+    alloc: Global,
+    folder: &mut F,
+    module: &Name,
+    given: Filed<Interface>,
+    uses: &[Use],
+) -> Result<bool, MakeFault>
+    requires of { IsFaceOf «module».now given }
+    requires read { F.tells folder.old ≡ true → symbols_of (F.files folder.old) «module».now ≡ seen face_of given }
+    ensures told { F.tells folder.new ≡ F.tells folder.old }
+    ensures files { F.tells folder.old ≡ true → F.files folder.new ≡ F.files folder.old }
+    ensures fails { F.tells folder.old ≡ true → AnswersAs (fails prints (symbols_of (F.files folder.old)) (each wanted_of uses.now)) result }
+    ensures cause { MakeHasCause (F.faults folder.old) (F.faults folder.new) result }
+{
+    let mut read = *module;
+    let mut face = given;
+    let mut rest = uses;
+    while let [of, more @ ..] = rest {
+        refresh(
+            alloc,
+            folder,
+            &mut read,
+            &mut face,
+            &of.object.module.name(),
+        )?;
+        if !meets(&face, of) {
+            return Ok(true);
+        }
+        rest = more;
+    }
+    Ok(false)
+}
+
+fn is_there(face: &Filed<Interface>) -> bool
+    ensures { result ≡ is_there (seen face_of face.now) }
+{
+    match face {
+        Filed::Absent => false,
+        Filed::Long => false,
+        Filed::Damaged => false,
+        Filed::Holds(_) => true,
+    }
+}
+
+// Whether a module with this object file is stale.
+fn is_stale_with<F: Shelf>(
+    alloc: Global,
+    folder: &mut F,
+    module: &Name,
+    file: &ObjFile,
+) -> Result<bool, MakeFault>
+    ensures told { F.tells folder.new ≡ F.tells folder.old }
+    ensures files { F.tells folder.old ≡ true → F.files folder.new ≡ F.files folder.old }
+    ensures stale { F.tells folder.old ≡ true → AnswersAs (not (is_there (symbols_of (F.files folder.old) «module».now)) || fails prints (symbols_of (F.files folder.old)) (each wanted_of file.now.head.uses)) result }
+    ensures cause { MakeHasCause (F.faults folder.old) (F.faults folder.new) result }
+{
+    let face = find_face(alloc, folder, module)?;
+    if !is_there(&face) {
+        return Ok(true);
+    }
+    fails(alloc, folder, module, face, file.head.uses.as_slice())
+}
+
+fn by_stale(stale: bool) -> State
+    ensures { result ≡ by_stale stale }
+{
+    if stale { State::Stale } else { State::Fresh }
+}
+
+// How a module stands.
+fn look<F: Shelf>(alloc: Global, folder: &mut F, module: &Name) -> Result<State, MakeFault>
+    ensures told { F.tells folder.new ≡ F.tells folder.old }
+    ensures files { F.tells folder.old ≡ true → F.files folder.new ≡ F.files folder.old }
+    ensures state { F.tells folder.old ≡ true → AnswersAs (state_in (has_of (F.files folder.old) «module».now) (is_stale prints (seen_in (F.files folder.old)) «module».now)) result }
+    ensures cause { MakeHasCause (F.faults folder.old) (F.faults folder.new) result }
+{
+    let found = find_file(alloc, folder, module)?;
+    match found {
+        Filed::Absent => Ok(State::Missing),
+        Filed::Long => Ok(State::Stale),
+        Filed::Damaged => Ok(State::Stale),
+        Filed::Holds(file) => {
+            let stale = is_stale_with(alloc, folder, module, &file)?;
+            Ok(by_stale(stale))
+        }
+    }
+}
+
+fn is_stale_state(state: State) -> bool
+    ensures { result ≡ is_stale_state state }
+{
+    match state {
+        State::Missing => true,
+        State::Stale => true,
+        State::Fresh => false,
+    }
+}
 
 /// Whether a module is stale: its object file or its symbol file is missing, damaged or too long, or a use
 /// in its object file is absent from the present symbol files, or changed there.
 ///
 /// It answers `Folder` only where the folder failed and its count of faults rose, and neither `Cycle` nor
 /// `TooMany`. The files stay as they are.
-pub fn stale<F: Shelf>(
-    _alloc: Global,
-    _folder: &mut F,
-    _module: &Name,
-) -> Result<bool, MakeFault>
-    ensures told { F.tells _folder.new ≡ F.tells _folder.old }
-    ensures files { F.tells _folder.old ≡ true → F.files _folder.new ≡ F.files _folder.old }
-    ensures stale { F.tells _folder.old ≡ true → AnswersAs (is_stale prints (seen_in (F.files _folder.old)) _module.now) result }
-    ensures cause { MakeHasCause (F.faults _folder.old) (F.faults _folder.new) result }
+pub fn stale<F: Shelf>(alloc: Global, folder: &mut F, module: &Name) -> Result<bool, MakeFault>
+    ensures told { F.tells folder.new ≡ F.tells folder.old }
+    ensures files { F.tells folder.old ≡ true → F.files folder.new ≡ F.files folder.old }
+    ensures stale { F.tells folder.old ≡ true → AnswersAs (is_stale prints (seen_in (F.files folder.old)) «module».now) result }
+    ensures cause { MakeHasCause (F.faults folder.old) (F.faults folder.new) result }
 {
-    Err(MakeFault::Memory)
+    let state = look(alloc, folder, module)?;
+    Ok(is_stale_state(state))
+}
+
+fn by_source(sourceless: bool) -> Turn
+    ensures { result ≡ turn_by true State.Stale sourceless }
+{
+    if sourceless {
+        Turn::LacksSource
+    } else {
+        Turn::Compiles
+    }
+}
+
+fn missing_turn(made: bool, sourceless: bool) -> Turn
+    ensures { result ≡ turn_by made State.Missing sourceless }
+{
+    if made {
+        by_source(sourceless)
+    } else if sourceless {
+        Turn::Stays
+    } else {
+        Turn::Compiles
+    }
+}
+
+fn turn_by(made: bool, state: State, sourceless: bool) -> Turn
+    ensures { result ≡ turn_by made state sourceless }
+{
+    match state {
+        State::Missing => missing_turn(made, sourceless),
+        State::Stale => by_source(sourceless),
+        State::Fresh => Turn::Stays,
+    }
 }
 
 /// What a make of `made` does of `module` when its turn comes, by the files as they are: nothing, where it
@@ -36,15 +268,21 @@ pub fn stale<F: Shelf>(
 /// It answers `Folder` only where the folder failed and its count of faults rose, and neither `Cycle` nor
 /// `TooMany`. The files stay as they are.
 pub fn turn<F: Shelf>(
-    _alloc: Global,
-    _folder: &mut F,
-    _made: &Name,
-    _module: &Name,
+    alloc: Global,
+    folder: &mut F,
+    made: &Name,
+    module: &Name,
 ) -> Result<Turn, MakeFault>
-    ensures told { F.tells _folder.new ≡ F.tells _folder.old }
-    ensures files { F.tells _folder.old ≡ true → F.files _folder.new ≡ F.files _folder.old }
-    ensures turn { F.tells _folder.old ≡ true → AnswersAs (turn_in prints (seen_in (F.files _folder.old)) _made.now _module.now) result }
-    ensures cause { MakeHasCause (F.faults _folder.old) (F.faults _folder.new) result }
+    ensures told { F.tells folder.new ≡ F.tells folder.old }
+    ensures files { F.tells folder.old ≡ true → F.files folder.new ≡ F.files folder.old }
+    ensures turn { F.tells folder.old ≡ true → AnswersAs (turn_in prints (seen_in (F.files folder.old)) made.now «module».now) result }
+    ensures cause { MakeHasCause (F.faults folder.old) (F.faults folder.new) result }
 {
-    Err(MakeFault::Memory)
+    let state = look(alloc, folder, module)?;
+    if !is_stale_state(state) {
+        return Ok(Turn::Stays);
+    }
+    let source = find_source(alloc, folder, module)?;
+    let is_made = module.as_bytes() == made.as_bytes();
+    Ok(turn_by(is_made, state, source.is_none()))
 }
