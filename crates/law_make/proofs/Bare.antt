@@ -1,6 +1,6 @@
 -- What compiles over files compiles by texts as well, over the same interfaces without their uses. So what is written of it has a
 -- spelling.
-use Rattle.std.proofs.Common.{◌≡◌, ℕ, zero, suc, ◌+◌, ◌^◌, ◌<◌, arith, Bool, true, false, cond, List, [], ◌∷◌, ◌++◌, length, Option, Some, None, Result, Ok, Err, refl, sym, ap, ◌∙◌, subst, codes}
+use Rattle.std.proofs.Common.{◌≡◌, ℕ, zero, suc, ◌+◌, ◌^◌, ◌<◌, arith, Bool, true, false, cond, List, [], ◌∷◌, ◌++◌, length, Option, Some, None, Ok, refl, sym, ap, ◌∙◌, subst, codes}
 use Rattle.std.specs.Prelude.{◌||◌, map as each, nat_le, bytes_eq}
 use Rattle.std.specs.Option.{option_map}
 use Rattle.std.specs.List.{flat_map, list_any, AllByRecursion}
@@ -34,20 +34,20 @@ use Rattle.ob_rules.specs.Declarations.{first_break, checked, deep_of, declarati
 use Rattle.ob_env.specs.Faces.{Face, Wanted, object_named, face_named, described, text_in, print_in, printed, interface_of}
 use Rattle.ob_env.specs.Fit.{count_of, steps_of, misfit, first_unfit}
 use Rattle.ob_env.specs.Shown.{blank, shown}
-use Rattle.ob_env.specs.Stale.{StaleUse, first_among, first_stale}
+use Rattle.ob_env.specs.Stale.{first_among, first_stale}
 use Rattle.ob_env.specs.Answer.{if_coherent, if_fit, standing}
 use Rattle.ob_env_walk.specs.Walk.{Entry, Missing, Junk, Holds, Walked, Left, NoInterface, Damaged, Cycle, TooMany, go_on, is_among, is_passed_over, through, entered, at_entry, at_module, entering, visit, walk}
 use Rattle.ob_env_walk.specs.Answer.{after_walk}
 use Rattle.ob_parse_grammar.specs.TextReading.{reading}
 use Rattle.ob_uses.specs.declared.pair.Pair.{Pair}
 use Rattle.ob_uses.specs.Uses.{with_kept, pairs_of}
-use Rattle.ob_uses.specs.Made.{face_over, face_of_laid}
-use Rattle.ob_compile_model.specs.Compiling.{Compiled, compiled, texts, prints, made, within, exceeds, exceeded, or_first, most_code, limit_of_files, exports_of, object_by, interface_by, object_bytes, symbol_bytes, of_checked, of_break, by_rules, and_limits, is_deep, unless_deep, of_faces, of_standing, of_reached, of_few, of_tree, of_reading, of_short, most_imports, most_source, imported}
-use Rattle.ob_builds.specs.Builds.{Text, Build, IsValid, IsSpelled}
+use Rattle.ob_uses.specs.Made.{face_over}
+use Rattle.ob_compile_model.specs.Compiling.{Compiled, compiled, texts, prints, made, within, exceeds, exceeded, or_first, most_code, limit_of_files, exports_of, object_by, interface_by, of_checked, of_break, by_rules, and_limits, is_deep, unless_deep, of_standing, of_reached, of_few, of_reading, of_short, imported}
+use Rattle.ob_builds.specs.Builds.{Text, Build, IsSpelled}
 use Rattle.ob_builds.specs.Written.{IsWritten}
 use Rattle.law_builds.proofs.Again.{AreHeld, only, walk_again}
 use Rattle.law_builds_written.proofs.Upheld.{builds_are_written}
-use Rattle.law_make.proofs.From.{IsMade, IsWalked, IsCompiled, is_compiled, made_over}
+use Rattle.law_make.proofs.From.{IsCompiled}
 
 -- an interface without its uses
 abbrev pub bare : Face Print → Face Text

@@ -1,5 +1,5 @@
 -- What a compile over files does, where what it writes is read again: it replaces the two files of its module.
-use Rattle.std.proofs.Common.{◌≡◌, ℕ, List, [], ◌∷◌, ◌++◌, Bool, true, false, cond, length, refl, sym, ap, ◌∙◌, subst, codes, Option, Some, None, Result, Ok, Err}
+use Rattle.std.proofs.Common.{◌≡◌, ℕ, List, [], ◌∷◌, Bool, true, false, cond, length, refl, sym, ap, ◌∙◌, subst, codes, Option, Some, None, Ok}
 use Rattle.std.specs.Prelude.{nat_le, bytes_eq, map as each}
 use Rattle.std.specs.Option.{option_map}
 use Rattle.std.specs.List.{AllByRecursion, flat_map}
@@ -8,31 +8,25 @@ use Rattle.ob_tree.specs.declared.names.QName.{QName}
 use Rattle.ob_tree.specs.declared.print.Print.{Print}
 use Rattle.ob_types.specs.declared.desc.Desc.{Desc}
 use Rattle.ob_types.specs.declared.face.Aspect.{Aspect}
-use Rattle.ob_types.specs.declared.face.Interface.{Interface}
 use Rattle.ob_types.specs.Maps.{listed}
 use Rattle.ob_format.specs.Format.{◌>>=◌, whole}
 use Rattle.ob_desc.specs.Grammar.{text_of}
 use Rattle.ob_fprint.specs.Print.{print_from}
 use Rattle.ob_obj.specs.Grammar.{file as object_form}
 use Rattle.ob_sym.specs.Grammar.{face as face_form}
-use Rattle.ob_env.specs.Faces.{Face, Wanted, object_named, face_named, described, text_in, print_in, face_of, interface_of, wanted_of, use_of}
+use Rattle.ob_env.specs.Faces.{Face, Wanted, object_named, face_named, print_in, face_of, wanted_of, use_of}
 use Rattle.ob_env.specs.Stale.{prints_agree, as_wanted, compared}
-use Rattle.ob_env_walk.specs.Walk.{Entry, Missing, Junk, Holds, symbol_entry, named_face, entry_from, file_limit, symbol_name}
-use Rattle.ob_cmp.specs.Check.{Present, NotThere, TooLong, Refused, There, within, symbols_of, face_found, in_face, print_of_desc}
+use Rattle.ob_env_walk.specs.Walk.{symbol_entry, file_limit}
+use Rattle.ob_cmp.specs.Check.{There, symbols_of, in_face, print_of_desc}
 use Rattle.ob_link.specs.Walk.{has}
-use Rattle.ob_link.specs.Files.{Files}
-use Rattle.ob_layout.specs.LaidOut.{laid_out}
 use Rattle.ob_uses.specs.declared.pair.Pair.{Pair}
 use Rattle.ob_uses.specs.Uses.{with_kept}
-use Rattle.ob_make.specs.Seen.{Has, Source, NoSource, Imports}
 use Rattle.ob_make.specs.Stale.{meets, is_met}
-use Rattle.ob_make.specs.Folder.{has_in, seen_in, source_of, source_name, prints as marks}
-use Rattle.ob_compile_model.specs.Compiling as compile
-use Rattle.ob_compile_model.specs.Compiling.{Compiled, compiled, prints, object_by, interface_by, object_bytes, symbol_bytes, exceeds}
-use Rattle.ob_shell_model.specs.Folds.{Answer}
-use Rattle.ob_shell_model.specs.Bytes.{World, Change, maker, changed, files_of, compile_answer, compiled_in}
+use Rattle.ob_make.specs.Folder.{has_in, seen_in, source_name, prints as marks}
+use Rattle.ob_compile_model.specs.Compiling.{Compiled, prints, object_by, interface_by, object_bytes, symbol_bytes}
+use Rattle.ob_shell_model.specs.Bytes.{World, maker, changed, files_of, compiled_in}
 use Rattle.law_builds.proofs.Compiled.{comes, short}
-use Rattle.law_builds.proofs.Faces.{face_back, uses_back}
+use Rattle.law_builds.proofs.Faces.{uses_back}
 use Rattle.law_lists.proofs.Lists.{bytes_itself, same_bytes, all_both}
 use Rattle.law_make.proofs.Entries.{found_there, entry_named}
 use Rattle.law_make.proofs.From.{ComesSo}

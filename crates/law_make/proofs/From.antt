@@ -1,5 +1,5 @@
 -- What a module that compiles comes from: its walk, and the tree that was checked.
-use Rattle.std.proofs.Common.{◌≡◌, ℕ, List, [], ◌∷◌, Bool, true, false, cond, length, refl, sym, ap, ◌∙◌, subst, Option, Some, None, Result, Ok, Err, codes}
+use Rattle.std.proofs.Common.{◌≡◌, ℕ, List, [], ◌∷◌, Bool, true, false, cond, length, refl, sym, ap, ◌∙◌, Option, Some, None, Result, Ok, Err, codes}
 use Rattle.std.specs.Prelude.{◌||◌, nat_le, bytes_eq, map as each}
 use Rattle.std.proofs.lemmas.Bool.{false≢true}
 use Rattle.ob_tree.specs.declared.names.QName.{QName}
@@ -13,7 +13,7 @@ use Rattle.ob_types.specs.TypedView.{module_view}
 use Rattle.ob_rules.specs.declared.broken.Broken.{Broken}
 use Rattle.ob_rules.specs.Names.{is_out}
 use Rattle.ob_rules.specs.Declarations as rules
-use Rattle.ob_rules.specs.Declarations.{checked, first_break, if_unbroken, typed_module, module_of, declaration, import_if}
+use Rattle.ob_rules.specs.Declarations.{checked, first_break, typed_module, module_of, declaration, import_if}
 use Rattle.ob_rules.specs.Statements.{judging}
 use Rattle.ob_rules.specs.Names.{is_among}
 use Rattle.ob_layout.specs.LaidOut.{laid_out}
@@ -29,7 +29,7 @@ use Rattle.ob_link.specs.Walk.{has}
 use Rattle.ob_make.specs.Seen.{Source, NoSource, Imports}
 use Rattle.ob_make.specs.Folder.{source_of, read_as}
 use Rattle.ob_compile_model.specs.Compiling as c
-use Rattle.ob_compile_model.specs.Compiling.{Keeping, Refusal, Compiled, compiled, made, within, exceeds, of_checked, of_break, by_rules, and_limits, unless_deep, is_deep, of_faces, of_standing, of_reached, of_few, of_tree, of_reading, of_short, most_imports, most_source, imported, target_of}
+use Rattle.ob_compile_model.specs.Compiling.{Keeping, Compiled, compiled, made, within, exceeds, of_checked, of_break, by_rules, and_limits, unless_deep, is_deep, of_standing, of_reached, of_few, of_tree, of_reading, of_short, most_imports, most_source, imported, target_of}
 use Rattle.law_builds.proofs.Compiled.{ok_is, err_no}
 use Rattle.law_names_procedures.proofs.Modules.{unbroken_parts, not_out}
 use Rattle.law_lists.proofs.Lists.{same_bytes, or_first, or_second}

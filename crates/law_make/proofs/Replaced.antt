@@ -1,20 +1,18 @@
 -- What is seen in files where the two files of a module are replaced.
-use Rattle.std.proofs.Common.{◌≡◌, ℕ, List, [], ◌∷◌, ◌++◌, Bool, true, false, cond, length, refl, sym, ap, ◌∙◌, codes, arith, Option, Some, None}
+use Rattle.std.proofs.Common.{◌≡◌, ℕ, List, [], ◌∷◌, ◌++◌, true, false, cond, length, refl, sym, ap, ◌∙◌, codes, arith, Some}
 use Rattle.std.specs.Prelude.{bytes_eq, nat_le}
 use Rattle.std.proofs.lemmas.Bool.{false≢true}
 use Rattle.std.proofs.lemmas.List.{append_cancel_right}
-use Rattle.ob_tree.specs.declared.print.Print.{Print}
 use Rattle.ob_format.specs.Format.{whole}
 use Rattle.ob_io.specs.Io.{put}
 use Rattle.ob_obj.specs.Grammar.{file as object_form}
 use Rattle.ob_obj.specs.declared.file.ObjFile.{ObjFile}
 use Rattle.ob_sym.specs.Grammar.{face as face_form}
 use Rattle.ob_types.specs.declared.face.Interface.{Interface}
-use Rattle.ob_env.specs.Faces.{Face, face_of}
+use Rattle.ob_env.specs.Faces.{face_of}
 use Rattle.ob_env_walk.specs.Walk.{file_limit, symbol_name}
-use Rattle.ob_cmp.specs.Check.{Present, TooLong, Refused, There, within, symbols_of, face_found, object_name}
+use Rattle.ob_cmp.specs.Check.{TooLong, Refused, There, within, symbols_of, face_found, object_name}
 use Rattle.ob_link.specs.Files.{Files}
-use Rattle.ob_make.specs.Seen.{Has, Source}
 use Rattle.ob_make.specs.Folder.{source_name, has_in, has_found, has_of, source_of, seen_in}
 use Rattle.law_lists.proofs.Lists.{bytes_itself, bytes_same, same_bytes, false_if_not}
 

@@ -1,7 +1,7 @@
 -- Behind the turns of a make no module that was not passed over is stale: of any kind of worlds, by what a compile does there.
-use Rattle.std.proofs.Common.{◌≡◌, ◌⊎◌, ℕ, List, [], ◌∷◌, ◌++◌, Bool, true, false, length, refl, sym, ap, ◌∙◌, subst, append_assoc, inl, inr, ⊎_elim, Result, Ok, Err, codes}
+use Rattle.std.proofs.Common.{◌≡◌, ◌⊎◌, ℕ, List, [], ◌∷◌, ◌++◌, Bool, true, false, length, refl, sym, ap, ◌∙◌, subst, append_assoc, inl, inr, ⊎_elim, Result, Ok, codes}
 use Rattle.std.specs.Prelude.{◌||◌, ◌&&◌, not, bytes_eq, map as each}
-use Rattle.std.specs.List.{AllByRecursion, filter, list_any}
+use Rattle.std.specs.List.{AllByRecursion}
 use Rattle.std.proofs.lemmas.Bool.{false≢true}
 use Rattle.ob_link.specs.Walk.{has}
 use Rattle.ob_env.specs.Faces.{Wanted, Face}
@@ -11,10 +11,10 @@ use Rattle.ob_make.specs.Order.{MakeEnd, order}
 use Rattle.ob_make.specs.Stale.{Marks, meets, fails, is_there, stale_with, is_stale, is_passed, is_sourceless, is_missing}
 use Rattle.ob_shell_reports.specs.Texts.{made_text}
 use Rattle.ob_shell_model.specs.Folds.{Answer, part}
-use Rattle.ob_shell_model.specs.Making.{Maker, in_turn, and_on, behind, behind_turns, made_so, made_in, make_answer}
-use Rattle.law_lists.proofs.Lists.{append_none, all_from, all_pairs, same_bytes, bytes_itself, or_parts, not_false, both_true, or_first}
-use Rattle.law_make.specs.Making.{passed, stale, sourceless, nothing, TakesTurn}
-use Rattle.law_make.proofs.Names.{true_or, has_front, has_back, has_here, has_last, not_last, other_name, IsSplit, split, has_filter, all_named}
+use Rattle.ob_shell_model.specs.Making.{Maker, in_turn, and_on, behind_turns, made_in, make_answer}
+use Rattle.law_lists.proofs.Lists.{append_none, all_from, same_bytes, bytes_itself, or_parts}
+use Rattle.law_make.specs.Making.{passed, stale, sourceless, TakesTurn}
+use Rattle.law_make.proofs.Names.{true_or, has_front, has_back, has_here, has_last, not_last, other_name, split, has_filter, all_named}
 use Rattle.law_make.proofs.Ordered.{IsOrdered, ordered}
 use Rattle.law_make.proofs.Exactly.{goes_on, first_goes, then_goes, takes_turn}
 

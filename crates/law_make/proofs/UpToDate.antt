@@ -1,25 +1,24 @@
 -- Behind a make over files, modules are up to date.
-use Rattle.std.proofs.Common.{◌≡◌, ◌⊎◌, ℕ, List, [], Bool, true, false, refl, sym, ap, ◌∙◌, subst, inl, inr, Option, Result, Ok, Err}
+use Rattle.std.proofs.Common.{◌≡◌, ◌⊎◌, ℕ, List, true, false, refl, sym, ap, ◌∙◌, subst, inl, inr, Result, Ok, Err}
 use Rattle.std.specs.Prelude.{bytes_eq}
 use Rattle.std.proofs.lemmas.Bool.{false≢true}
 use Rattle.ob_tree.specs.declared.print.Print.{Print}
 use Rattle.ob_sym.specs.Grammar.{face as face_form}
 use Rattle.ob_env.specs.Faces.{Face, face_of, interface_of}
-use Rattle.ob_env_walk.specs.Walk.{Holds, symbol_entry}
-use Rattle.ob_cmp.specs.Check.{Present, NotThere, TooLong, Refused, There, IsStale, check_of, symbols_of}
-use Rattle.ob_link.specs.Files.{Files}
-use Rattle.ob_make.specs.Stale.{is_stale}
-use Rattle.ob_make.specs.Folder.{seen_in, source_name, prints as marks}
+use Rattle.ob_env_walk.specs.Walk.{symbol_entry}
+use Rattle.ob_cmp.specs.Check.{Present, NotThere, TooLong, Refused, There, symbols_of}
+use Rattle.ob_make.specs.Folder.{source_name}
+use Rattle.ob_make.proofs.Fresh.{fresh_is_up_to_date}
 use Rattle.ob_compile_model.specs.Compiling as compile
 use Rattle.ob_compile_model.specs.Compiling.{Compiled, prints, interface_by}
-use Rattle.ob_shell_model.specs.Folds.{Answer}
-use Rattle.ob_shell_model.specs.Bytes.{World, Change, maker, changed, files_of, compile_answer, compiled_in}
+use Rattle.ob_shell_model.specs.Making.{make_answer}
+use Rattle.ob_shell_model.specs.Bytes.{World, maker, changed, files_of, compile_answer, compiled_in}
 use Rattle.law_builds.proofs.Faces.{face_back}
 use Rattle.law_lists.proofs.Lists.{same_bytes}
-use Rattle.law_make.specs.UpToDate.{AreBytes, MakesBringUpToDate}
+use Rattle.law_make.specs.UpToDate.{MakesBringUpToDate}
 use Rattle.law_make.proofs.Names.{true_or}
 use Rattle.law_make.proofs.Turns.{Does, AllDo, up_to_date}
-use Rattle.law_make.proofs.From.{ComesSo, comes_so}
+use Rattle.law_make.proofs.From.{comes_so}
 use Rattle.law_make.proofs.Entries.{held, held_same, found_there}
 use Rattle.law_make.proofs.Does.{symbol_now, does_so}
 use Rattle.law_make.proofs.Spelled.{AreSpelled, bytes_spelled, IsWritten, written}
@@ -56,8 +55,5 @@ all_do v x ms i s h = go (compiled_in v (v.files (source_name x))) refl h
         let d = does_so v x ms c e w.again k in
         (d, spelled_on v x ms c i w d (symbol_now v x ms c e w.again k))
 
-fresh_is_up_to_date : (files : Files) (x : List ℕ) → is_stale marks (seen_in files) x ≡ false → check_of files x ≡ IsStale []
-fresh_is_up_to_date files x h = ?
-
 pub bring : MakesBringUpToDate
-bring w m xs bytes e h x k p = fresh_is_up_to_date _ x (up_to_date maker (λ v. AreSpelled v.files) all_do m w xs (bytes_spelled w.files bytes) e h x k p)
+bring w m xs bytes e h x k p = fresh_is_up_to_date (make_answer maker m w).world.files x (up_to_date maker (λ v. AreSpelled v.files) all_do m w xs (bytes_spelled w.files bytes) e h x k p)
