@@ -1,5 +1,5 @@
 -- The turns of a make are done one behind the other, each as it is said, and what was compiled is counted.
-use Rattle.std.proofs.Common.{◌≡◌, ◌⊎◌, ℕ, ◌+◌, if◌then◌else◌, List, [], ◌∷◌, ◌++◌, Bool, true, false, length, refl, sym, ap, ◌∙◌, append_assoc, length-append, arith, inl, inr, Result, Ok, Err}
+use Rattle.std.proofs.Common.{◌≡◌, ◌⊎◌, ℕ, if◌then◌else◌, List, [], ◌∷◌, ◌++◌, Bool, true, false, length, refl, sym, ap, ◌∙◌, append_assoc, length-append, arith, inl, inr, Result, Ok, Err}
 use Rattle.std.proofs.lemmas.Bool.{false≢true}
 use Rattle.ob_tree.specs.declared.print.Print.{Print}
 use Rattle.ob_make.specs.Order.{MakeEnd, order}
@@ -7,16 +7,16 @@ use Rattle.ob_make.specs.Stale.{turn_of}
 use Rattle.ob_make.specs.Folder.{source_name}
 use Rattle.ob_make.specs.declared.turns.Turn.{Turn}
 use Rattle.ob_make.specs.declared.turns.Turn.TheVariants as turn
+use Rattle.ob_make.proofs.Orders.{order_stands}
 use Rattle.ob_compile_model.specs.Compiling as compile
 use Rattle.ob_compile_model.specs.Compiling.{Compiled}
-use Rattle.ob_shell_reports.specs.Texts.{refused, made_text}
+use Rattle.ob_shell_reports.specs.Texts.{made_text}
 use Rattle.ob_shell_model.specs.Folds.{Part, Answer, part}
 use Rattle.ob_shell_model.specs.Making.{Maker, turn_at, by_turn, in_turn, and_on, behind, behind_turns, made_in, make_answer}
 use Rattle.ob_shell_model.specs.Bytes as bytes
 use Rattle.ob_shell_model.specs.Model as model
 use Rattle.ob_builds.specs.Builds.{Text}
-use Rattle.law_make.specs.Making.{passed, stale, sourceless, nothing, TakesTurn, and_one, count_compiled, HasOnePart, MakesExactly, MakesCompileExactly}
-use Rattle.law_make.proofs.Ordered.{ordered}
+use Rattle.law_make.specs.Making.{passed, stale, sourceless, nothing, TakesTurn, and_one, count_compiled, MakesExactly, MakesCompileExactly}
 
 -- ---- answers behind one another
 
@@ -73,7 +73,11 @@ module _ {W C K : Type 0} (maker : Maker W C K) (m : List ℕ) where
 
   -- ---- the count
 
-  count_from : HasOnePart maker m → (xs : List (List ℕ)) (w : W) → (behind_turns maker m xs w).refused ≡ false → length (behind_turns maker m xs w).parts ≡ count_compiled maker m xs w
+  -- a compile that is not refused has one part
+  abbrev HasOnePart : Type 0
+  HasOnePart = (w : W) (x : List ℕ) → (maker.compile w x).refused ≡ false → length (maker.compile w x).parts ≡ 1
+
+  count_from : HasOnePart → (xs : List (List ℕ)) (w : W) → (behind_turns maker m xs w).refused ≡ false → length (behind_turns maker m xs w).parts ≡ count_compiled maker m xs w
   unfolding behind_turns count_compiled
   count_from one [] w e = refl
   count_from one (x ∷ xs) w e = go (turn_at maker m w x) (λ v. count_from one xs v) e
@@ -88,7 +92,7 @@ module _ {W C K : Type 0} (maker : Maker W C K) (m : List ℕ) where
           ap (λ (y : Answer W C). length y.parts) (goes_on a f (first_goes a f h)) ∙ length-append a.parts (f a.world).parts ∙ omega (arith, n, k)
       go turn.LacksSource more h = absurd (false≢true (sym h))
 
-  counted : HasOnePart maker m → (w : W) (xs : List (List ℕ)) → order (maker.sees w) m ≡ Ok xs → (behind_turns maker m xs w).refused ≡ false →
+  counted : HasOnePart → (w : W) (xs : List (List ℕ)) → order (maker.sees w) m ≡ Ok xs → (behind_turns maker m xs w).refused ≡ false →
       make_answer maker m w ≡ behind (behind_turns maker m xs w).parts (record { world = (behind_turns maker m xs w).world; parts = part [] (made_text m (count_compiled maker m xs w)); refused = false })
   counted one w xs e h =
       let a = behind_turns maker m xs w in
@@ -96,9 +100,9 @@ module _ {W C K : Type 0} (maker : Maker W C K) (m : List ℕ) where
       ∙ goes_on a (λ v. record { world = v; parts = part [] (made_text m (length a.parts)); refused = false }) h
       ∙ ap (λ (n : ℕ). behind a.parts (ended false a.world (part [] (made_text m n)))) (count_from one xs w h)
 
-  pub exactly : HasOnePart maker m → (w : W) (xs : List (List ℕ)) → order (maker.sees w) m ≡ Ok xs → MakesExactly maker m w xs
+  pub exactly : HasOnePart → (w : W) (xs : List (List ℕ)) → order (maker.sees w) m ≡ Ok xs → MakesExactly maker m w xs
   exactly one w xs e = record {
-    once = (ordered (maker.sees w) m xs e).once;
+    once = (order_stands (maker.sees w) m xs e).once;
     in_order = λ front back i. ap (λ l. behind_turns maker m l w) i ∙ in_order front back w;
     turns = λ front back x i h. takes_turn (behind_turns maker m front w).world x;
     count = counted one w xs e;

@@ -1,5 +1,4 @@
 pub mod Names
-pub mod Ordered
 pub mod Exactly
 pub mod Turns
 pub mod From

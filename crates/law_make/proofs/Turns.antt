@@ -9,13 +9,15 @@ use Rattle.ob_cmp.specs.Check.{Present, NotThere, TooLong, Refused, There}
 use Rattle.ob_make.specs.Seen.{Has, Source, NoSource, Imports, Seen, object_needs, symbol_needs, source_needs, is_needed, needs}
 use Rattle.ob_make.specs.Order.{MakeEnd, order}
 use Rattle.ob_make.specs.Stale.{Marks, meets, fails, is_there, stale_with, is_stale, is_passed, is_sourceless, is_missing}
+use Rattle.ob_make.specs.Laws.{StandsInOrder}
+use Rattle.ob_make.proofs.Names.{has_left, has_right, has_filter, apart, stands_in, of_all}
+use Rattle.ob_make.proofs.Orders.{order_stands}
 use Rattle.ob_shell_reports.specs.Texts.{made_text}
 use Rattle.ob_shell_model.specs.Folds.{Answer, part}
 use Rattle.ob_shell_model.specs.Making.{Maker, in_turn, and_on, behind_turns, made_in, make_answer}
 use Rattle.law_lists.proofs.Lists.{append_none, all_from, same_bytes, bytes_itself, or_parts}
 use Rattle.law_make.specs.Making.{passed, stale, sourceless, TakesTurn}
-use Rattle.law_make.proofs.Names.{true_or, has_front, has_back, has_here, has_last, not_last, other_name, split, has_filter, all_named}
-use Rattle.law_make.proofs.Ordered.{IsOrdered, ordered}
+use Rattle.law_make.proofs.Names.{true_or, has_here, has_last, not_last, all_named}
 use Rattle.law_make.proofs.Exactly.{goes_on, first_goes, then_goes, takes_turn}
 
 -- What a compile of module x, whose source has these imports, does in world v, where it comes to world u: no other module's files are
@@ -88,7 +90,7 @@ not_stale marks s y f =
 -- ---- needs
 
 need : {K : Type 0} (s : Seen K) (x n : List ℕ) → has n (object_needs (s.object x) ++ (symbol_needs (s.symbols x) ++ source_needs (s.source x))) ≡ true → is_needed x n ≡ true → has n (needs s x) ≡ true
-need s x n h k = has_filter (is_needed x) n (object_needs (s.object x) ++ (symbol_needs (s.symbols x) ++ source_needs (s.source x))) h k
+need s x n h k = has_filter (is_needed x) n (object_needs (s.object x) ++ (symbol_needs (s.symbols x) ++ source_needs (s.source x))) ∙ ap (λ b. b && has n (object_needs (s.object x) ++ (symbol_needs (s.symbols x) ++ source_needs (s.source x)))) k ∙ h
 
 needed : (x n : List ℕ) → bytes_eq n x ≡ false → bytes_eq n (codes "Out") ≡ false → is_needed x n ≡ true
 needed x n e f = ap (λ b. not b && not (bytes_eq n (codes "Out"))) e ∙ ap not f
@@ -102,13 +104,13 @@ not_own x n h = go (bytes_eq n x) (bytes_eq n (codes "Out")) h
     go false false h = (refl, refl)
 
 of_uses : {K : Type 0} (s : Seen K) (x n : List ℕ) (f : Has K) → s.object x ≡ There f → has n (each (λ w. w.object.«module») f.uses) ≡ true → is_needed x n ≡ true → has n (needs s x) ≡ true
-of_uses s x n f e h k = need s x n (has_front n (object_needs (s.object x)) (symbol_needs (s.symbols x) ++ source_needs (s.source x)) (ap (λ o. has n (object_needs o)) e ∙ has_back n f.imports (each (λ w. w.object.«module») f.uses) h)) k
+of_uses s x n f e h k = need s x n (has_left n (object_needs (s.object x)) (symbol_needs (s.symbols x) ++ source_needs (s.source x)) (ap (λ o. has n (object_needs o)) e ∙ has_right n f.imports (each (λ w. w.object.«module») f.uses) h)) k
 
 of_symbols : {K : Type 0} (s : Seen K) (x n : List ℕ) (f : Face K) → s.symbols x ≡ There f → has n f.imports ≡ true → is_needed x n ≡ true → has n (needs s x) ≡ true
-of_symbols s x n f e h k = need s x n (has_back n (object_needs (s.object x)) (symbol_needs (s.symbols x) ++ source_needs (s.source x)) (has_front n (symbol_needs (s.symbols x)) (source_needs (s.source x)) (ap (λ o. has n (symbol_needs o)) e ∙ h))) k
+of_symbols s x n f e h k = need s x n (has_right n (object_needs (s.object x)) (symbol_needs (s.symbols x) ++ source_needs (s.source x)) (has_left n (symbol_needs (s.symbols x)) (source_needs (s.source x)) (ap (λ o. has n (symbol_needs o)) e ∙ h))) k
 
 of_source : {K : Type 0} (s : Seen K) (x n : List ℕ) (ms : List (List ℕ)) → s.source x ≡ Imports ms → has n ms ≡ true → is_needed x n ≡ true → has n (needs s x) ≡ true
-of_source s x n ms e h k = need s x n (has_back n (object_needs (s.object x)) (symbol_needs (s.symbols x) ++ source_needs (s.source x)) (has_back n (symbol_needs (s.symbols x)) (source_needs (s.source x)) (ap (λ o. has n (source_needs o)) e ∙ h))) k
+of_source s x n ms e h k = need s x n (has_right n (object_needs (s.object x)) (symbol_needs (s.symbols x) ++ source_needs (s.source x)) (has_right n (symbol_needs (s.symbols x)) (source_needs (s.source x)) (ap (λ o. has n (source_needs o)) e ∙ h))) k
 
 there_is : {X : Type 0} (x y : X) → (let a : Present X = There x in a) ≡ There y → x ≡ y
 there_is x y e = ap (or_it x) e
@@ -125,7 +127,10 @@ sourced (Imports ms) h = (ms, refl)
 
 -- ---- the turns
 
-module _ {W C K : Type 0} (maker : Maker W C K) (I : W → Type 0) (all_do : AllDo maker I) (m : List ℕ) (w : W) (xs : List (List ℕ)) (stands : IsOrdered (maker.sees w) xs) where
+module _ {W C K : Type 0} (maker : Maker W C K) (I : W → Type 0) (all_do : AllDo maker I) (m : List ℕ) (w : W) (xs : List (List ℕ)) (stands : StandsInOrder (maker.sees w) m xs) where
+  stands_before : (front back : List (List ℕ)) (x n : List ℕ) → xs ≡ front ++ x ∷ back → has n (needs (maker.sees w) x) ≡ true → has n front ≡ true
+  stands_before front back x n is h = of_all (λ k. has k front ≡ true) n (needs (maker.sees w) x) (stands.behind front back x is) h
+
   -- such a module had its turn, or it is Out
   abbrev IsNear : List (List ℕ) → List ℕ → Type 0
   IsNear front n = (has n front ≡ true) ⊎ (bytes_eq n (codes "Out") ≡ true)
@@ -155,7 +160,7 @@ module _ {W C K : Type 0} (maker : Maker W C K) (I : W → Type 0) (all_do : All
   }
 
   nearer : (front more : List (List ℕ)) (n : List ℕ) → IsNear front n → IsNear (front ++ more) n
-  nearer front more n (inl h) = inl (has_front n front more h)
+  nearer front more n (inl h) = inl (has_left n front more h)
   nearer front more n (inr h) = inr h
 
   wider : (front more : List (List ℕ)) (v : W) (y : List ℕ) → Stays front v y → Stays (front ++ more) v y
@@ -164,9 +169,9 @@ module _ {W C K : Type 0} (maker : Maker W C K) (I : W → Type 0) (all_do : All
   -- the needs of those that had their turns are among these
   behind_needs : (front back : List (List ℕ)) → xs ≡ front ++ back → (p n : List ℕ) → has p front ≡ true → has n (needs (maker.sees w) p) ≡ true → has n front ≡ true
   behind_needs front back e p n h k =
-      let s = split p front h in
-      let is : xs ≡ s.front ++ p ∷ (s.back ++ back) = e ∙ ap (λ l. l ++ back) s.is ∙ append_assoc s.front (p ∷ s.back) back in
-      subst (λ l. has n l ≡ true) (sym s.is) (has_front n s.front (p ∷ s.back) (stands.needs s.front (s.back ++ back) p n is k))
+      let s = stands_in p front h in
+      let is : xs ≡ s.0 ++ p ∷ (s.1 ++ back) = e ∙ ap (λ l. l ++ back) s.2 ∙ append_assoc s.0 (p ∷ s.1) back in
+      subst (λ l. has n l ≡ true) (sym s.2) (has_left n s.0 (p ∷ s.1) (stands_before s.0 (s.1 ++ back) p n is k))
 
   -- ---- one turn
 
@@ -202,12 +207,12 @@ module _ {W C K : Type 0} (maker : Maker W C K) (I : W → Type 0) (all_do : All
         go : (f : IsFresh maker.marks (maker.sees v) x) (n : List ℕ) → has n (each (λ u. u.object.«module») f.shows.uses) ≡ true → (bytes_eq n x ≡ true) ⊎ (bytes_eq n x ≡ false) → (bytes_eq n (codes "Out") ≡ true) ⊎ (bytes_eq n (codes "Out") ≡ false) → IsNear (front ++ x ∷ []) n
         go f n k (inl e) o = inl (ap (λ y. has y (front ++ x ∷ [])) (same_bytes n x e) ∙ has_here x front [])
         go f n k (inr e) (inl o) = inr o
-        go f n k (inr e) (inr o) = inl (has_front n front (x ∷ []) (stands.needs front back x n is (of_uses (maker.sees w) x n f.shows (sym (b.objects x fresh_name) ∙ f.object) k (needed x n e o))))
+        go f n k (inr e) (inr o) = inl (has_left n front (x ∷ []) (stands_before front back x n is (of_uses (maker.sees w) x n f.shows (sym (b.objects x fresh_name) ∙ f.object) k (needed x n e o))))
 
     -- where it is compiled
     module _ (ms : List (List ℕ)) (source_is : (maker.sees v).source x ≡ Imports ms) (u : W) (d : Does maker v x ms u) where
       not_x : (n : List ℕ) → IsNear front n → bytes_eq n x ≡ false
-      not_x n (inl h) = other_name n x front h fresh_name
+      not_x n (inl h) = apart n x front h fresh_name
       not_x n (inr h) = ap (λ y. bytes_eq y x) (same_bytes n (codes "Out") h) ∙ flip
         where
           flip : bytes_eq (codes "Out") x ≡ false
@@ -230,7 +235,7 @@ module _ {W C K : Type 0} (maker : Maker W C K) (I : W → Type 0) (all_do : All
 
       others : (y : List ℕ) → has y front ≡ true → Stays front v y → Stays (front ++ x ∷ []) u y
       others y h s =
-          let o = other_name y x front h fresh_name in
+          let o = apart y x front h fresh_name in
           record {
             fresh = record { shows = s.fresh.shows; object = d.objects y o ∙ s.fresh.object; symbol = ap is_there (d.symbols y o) ∙ s.fresh.symbol; met = met_still s.fresh.shows.uses s.near s.fresh.met };
             near = all_from (λ a. IsNear front a.object.«module») (λ a. IsNear (front ++ x ∷ []) a.object.«module») (λ a. nearer front (x ∷ []) a.object.«module») s.fresh.shows.uses s.near;
@@ -248,7 +253,7 @@ module _ {W C K : Type 0} (maker : Maker W C K) (I : W → Type 0) (all_do : All
 
       own_near : AllByRecursion (λ a. IsNear front a.object.«module») d.shows.uses
       own_near = all_from (λ a. has a.object.«module» front ≡ true) (λ a. IsNear front a.object.«module») (λ a h. inl h) d.shows.uses
-          (d.near (λ n. has n front) (λ n h e o. stands.needs front back x n is (import_needed n h e o)) (λ p n f. onward p n f))
+          (d.near (λ n. has n front) (λ n h e o. stands_before front back x n is (import_needed n h e o)) (λ p n f. onward p n f))
 
       own : Stays (front ++ x ∷ []) u x
       own = record {
@@ -324,4 +329,4 @@ up_to_date {W = W} {C = C} maker I all_do m w xs i e h x k p =
     let is : make_answer maker m w ≡ and_on a g = ap (λ (o : Result (List (List ℕ)) MakeEnd). made_in maker m o w) e in
     let n : a.refused ≡ false = first_goes a g (ap (λ (z : Answer W C). z.refused) (sym is) ∙ h) in
     let world : (make_answer maker m w).world ≡ a.world = ap (λ (z : Answer W C). z.world) (is ∙ goes_on a g n) in
-    ap (λ v. is_stale maker.marks (maker.sees v) x) world ∙ fresh_behind maker I all_do m w xs (ordered (maker.sees w) m xs e) i n x k p
+    ap (λ v. is_stale maker.marks (maker.sees v) x) world ∙ fresh_behind maker I all_do m w xs (order_stands (maker.sees w) m xs e) i n x k p

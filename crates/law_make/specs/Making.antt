@@ -1,5 +1,5 @@
 -- What a line `make M` compiles: the modules that are stale when their turn comes, each at most once.
-use Rattle.std.specs.Prelude.{◌≡◌, ◌⊎◌, ℕ, suc, List, [], ◌∷◌, ◌++◌, Bool, true, false, length, Ok}
+use Rattle.std.specs.Prelude.{◌≡◌, ◌⊎◌, ℕ, suc, List, [], ◌∷◌, ◌++◌, Bool, true, false, Ok}
 use Rattle.ob_link.specs.Walk.{has}
 use Rattle.ob_make.specs.Order.{order}
 use Rattle.ob_make.specs.Stale.{is_passed, is_sourceless, is_stale}
@@ -43,10 +43,6 @@ module _ {W C K : Type 0} (maker : Maker W C K) (m : List ℕ) where
   count_compiled [] w = 0
   count_compiled (x ∷ xs) w = and_one (turn_at maker m w x) (count_compiled xs (in_turn maker m w x).world)
 
-  -- a compile that is not refused has one part
-  abbrev pub HasOnePart : Type 0
-  HasOnePart = (w : W) (x : List ℕ) → (maker.compile w x).refused ≡ false → length (maker.compile w x).parts ≡ 1
-
   -- The make of m in world w, whose order is xs. No module has two turns. The turns of some modules and then of others are done one behind
   -- the other. Each turn is done as it is said above, in the world behind those before it. Where none is refused, the line ends with the
   -- number of modules that were compiled.
@@ -57,6 +53,6 @@ module _ {W C K : Type 0} (maker : Maker W C K) (m : List ℕ) where
     pub count : (behind_turns maker m xs w).refused ≡ false →
         make_answer maker m w ≡ behind (behind_turns maker m xs w).parts (record { world = (behind_turns maker m xs w).world; parts = part [] (made_text m (count_compiled xs w)); refused = false })
 
--- THE LAW, of each kind of worlds in which a compile has one part
+-- THE LAW, of a kind of worlds
 abbrev pub MakesCompileExactly : {W C K : Type 0} → Maker W C K → Type 0
 MakesCompileExactly {W} maker = (m : List ℕ) (w : W) (xs : List (List ℕ)) → order (maker.sees w) m ≡ Ok xs → MakesExactly maker m w xs
