@@ -116,7 +116,7 @@ module _ (v : World) (x : List ℕ) (ms : List (List ℕ)) (c : Compiled Print) 
   at_once : (nothing : (n : List ℕ) → true ≡ true) → AllByRecursion (λ u. meets marks u (symbols_of v.files u.object.«module») ≡ true) c.shows.uses
   at_once nothing = (each_use (λ n. true) (λ n h e o. refl) (λ p n f t s h e o. refl) c.shows.uses uses_kept).0
 
-  pub symbol_now : (seen_in (changed v.files (files_of c))).symbols x ≡ There (face_of (interface_by prints c))
+  symbol_now : (seen_in (changed v.files (files_of c))).symbols x ≡ There (face_of (interface_by prints c))
   symbol_now = ap (λ f. (seen_in f).symbols x) files_are ∙ symbols_are v.files x (object_bytes prints c) (symbol_bytes prints c) (interface_by prints c) small.1 again.1 (sym module_is)
 
   pub does_so : Does maker v x ms now

@@ -8,4 +8,5 @@ pub mod Entries
 pub mod Bare
 pub mod Does
 pub mod Spelled
+pub mod Keeping
 pub mod UpToDate

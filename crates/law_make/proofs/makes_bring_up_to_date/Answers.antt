@@ -1,5 +1,5 @@
-use Rattle.law_make.proofs.UpToDate.{bring}
+use Rattle.law_make.proofs.UpToDate.{makes_bring, sessions_bring}
 use Rattle.law_make.proofs.makes_bring_up_to_date.Goals as goal
 
 pub returns : goal.returns
-returns c = bring
+returns c = record { worlds = makes_bring; sessions = sessions_bring }
