@@ -11,6 +11,7 @@ use Rattle.ob_shell_model.specs.Folds.{Answer, part}
 use Rattle.ob_shell_model.specs.Making.{Maker, turn_at, in_turn, and_on, behind, behind_turns, make_answer}
 
 module _ {W C K : Type 0} (maker : Maker W C K) (m : List ℕ) where
+  -- a module that is passed over, one that is stale, and one whose source is missing, by what a world has
   abbrev pub passed : W → List ℕ → Bool
   passed w x = is_passed (maker.sees w) m x
 
@@ -33,6 +34,7 @@ module _ {W C K : Type 0} (maker : Maker W C K) (m : List ℕ) where
 
   -- ---- the count
 
+  -- one more where the module is compiled
   abbrev pub and_one : Turn → ℕ → ℕ
   and_one turn.Stays n = n
   and_one turn.Compiles n = suc n
