@@ -37,7 +37,7 @@ use Rattle.law_make.proofs.Turns.{Does}
 -- ---- the uses of a module
 
 -- each use has what it keeps
-all_kept : {K : Type 0} (keeps : QName → Aspect → Option K) (ps : List Pair) → AllByRecursion (λ (u : Wanted K). keeps u.object u.aspect ≡ Some u.kept) (flat_map (with_kept keeps) ps)
+pub all_kept : {K : Type 0} (keeps : QName → Aspect → Option K) (ps : List Pair) → AllByRecursion (λ (u : Wanted K). keeps u.object u.aspect ≡ Some u.kept) (flat_map (with_kept keeps) ps)
 all_kept keeps [] = tt
 all_kept {K = K} keeps (p ∷ ps) = all_both (λ (u : Wanted K). keeps u.object u.aspect ≡ Some u.kept) (with_kept keeps p) (flat_map (with_kept keeps) ps) (go (keeps p.object p.aspect) refl) (all_kept keeps ps)
   where

@@ -10,3 +10,4 @@ pub mod Does
 pub mod Spelled
 pub mod Keeping
 pub mod UpToDate
+pub mod Meant

@@ -11,6 +11,8 @@ use Rattle.ob_make.specs.Folder.{seen_in}
 use Rattle.ob_shell_model.specs.Folds.{world_from}
 use Rattle.ob_shell_model.specs.Making.{make_answer}
 use Rattle.ob_shell_model.specs.Bytes.{World, maker, start, answer}
+use Rattle.ob_shell_model.specs.Library.{IsLibrary}
+use Rattle.ob_shell_model.specs.Model as meaning
 
 -- files hold bytes
 abbrev pub AreBytes : Files → Type 0
@@ -29,3 +31,8 @@ MakesBringUpToDate = (w : World) → AreBytes w.files → BringsUpToDate w
 -- and of the world behind any lines of a session
 abbrev pub SessionsBringUpToDate : Type 0
 SessionsBringUpToDate = (s : Settings) (files : Files) (past : List (List ℕ)) → AreBytes files → BringsUpToDate (world_from (answer s) (start s files) 1 past)
+
+-- By the meaning: over a library, whose object builds are checked against its symbol builds
+abbrev pub MeaningBringsUpToDate : Type 0
+MeaningBringsUpToDate = (w : meaning.World) → IsLibrary w.library → (m : List ℕ) (xs : List (List ℕ)) → order (meaning.seen_in w) m ≡ Ok xs → (make_answer meaning.maker m w).refused ≡ false →
+    (x : List ℕ) → has x xs ≡ true → is_passed (meaning.seen_in w) m x ≡ false → meaning.check_in (make_answer meaning.maker m w).world.library x ≡ IsStale []
