@@ -1,0 +1,13 @@
+pub mod Names
+pub mod Exactly
+pub mod Turns
+pub mod From
+pub mod Walked
+pub mod Replaced
+pub mod Entries
+pub mod Bare
+pub mod Does
+pub mod Spelled
+pub mod Keeping
+pub mod UpToDate
+pub mod Meant
