@@ -26,8 +26,8 @@ use std::alloc::Global;
 ///   stopped,
 /// - 2 where the words are refused; then nothing is read or written,
 /// - 3, 4 and 6 only where the script, the sink or the folder failed and its count of faults rose,
-/// - 5 at a want of memory: it makes no change of files, and leaves of the line's text nothing or
-///   the first line of a demo,
+/// - 5 at a want of memory: of the line that it cuts, nothing is done, or the first line of a demo is
+///   printed, or the first compiles of a make are done, whole and with their text,
 /// - 7 exactly where a line has more than 1,024 bytes or the script more than 1,048,576, and none
 ///   of 2 to 6 came before: the lines before that line are done, and in it nothing is.
 ///
