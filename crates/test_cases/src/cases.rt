@@ -242,10 +242,17 @@ impl Case {
     // What a session writes, and its status.
     fn answer(&mut self, script: &str) -> anyhow::Result<String> {
         let alloc = self.alloc;
-        let done = run(alloc, &self.words, &self.files, script, Failing::Script, 0)?;
-        self.files = done.files;
-        let written = done.text;
-        let status = done.status;
+        let none = Vec::new(alloc);
+        let answer = run(
+            alloc,
+            &self.words,
+            &mut self.files,
+            script,
+            none,
+            Vec::new(alloc),
+        )?;
+        let written = answer.text;
+        let status = answer.status;
         Ok(format!(in alloc; "{written}== status {status}\n")?)
     }
 

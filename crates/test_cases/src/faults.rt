@@ -1,12 +1,15 @@
 //! Sessions in which one call of the outside fails.
 
-use crate::files::{Change, Files};
-use ob_io::{MemSink, MemSource};
+use crate::files::Files;
+use ob_io::{Folder, MemFolder, MemSink, MemSource};
 use ob_shell::session;
 use std::alloc::{AllocError, Global};
 
-/// Room for what a session writes, in bytes.
+/// Room for what a session writes, in bytes, and for the files that it replaces.
 const ROOM: usize = 1 << 20;
+
+/// Room for the files that a session replaces.
+const NAMES: usize = 1000;
 
 /// Whose calls fail.
 #[derive(Clone, Copy, PartialEq, Eq, Drop)]
@@ -19,25 +22,85 @@ pub enum Failing {
     Script,
 }
 
-/// What a session did: its status, what it wrote, and the files behind it.
-#[derive(Drop)]
-pub struct Done {
+/// What a session answered: its status, and what it wrote.
+#[derive(PartialEq, Eq, Drop)]
+pub struct Answer {
     pub status: u8,
     pub text: String,
-    pub files: Files,
 }
 
-// The number of the call that fails, for one of the objects of the outside.
+/// Does a script over a folder. The calls of the script and of the sink with these numbers fail, counted from 1.
+pub fn run<F: Folder>(
+    alloc: Global,
+    words: &[String],
+    folder: &mut F,
+    script: &str,
+    of_script: Vec<u64>,
+    of_sink: Vec<u64>,
+) -> anyhow::Result<Answer> {
+    let mut source = MemSource::new(script.as_bytes().to_vec(alloc)?, of_script);
+    let mut sink = MemSink::new(alloc, ROOM, of_sink)?;
+    let status = session(alloc, words, folder, &mut source, &mut sink);
+    let text = String::from_str(alloc, str::from_utf8(sink.bytes())?)?;
+    Ok(Answer { status, text })
+}
+
+// What a session did: its answer, the folder behind it, and how many files were put there before it.
+#[derive(Drop)]
+struct Done {
+    answer: Answer,
+    folder: MemFolder,
+    before: usize,
+}
+
+impl Done {
+    // A file that the session put, by its number, from 0.
+    fn change(&self, number: usize) -> Option<(&[u8], &[u8])> {
+        self.folder.file_at(self.before.saturating_add(number))
+    }
+
+    // How many files the session put.
+    fn count(&self) -> usize {
+        for number in 0..usize::MAX {
+            if self.change(number).is_none() {
+                return number;
+            }
+        }
+        usize::MAX
+    }
+}
+
+// The number of the call that fails, for one of the objects of the outside; with 0 none does.
 fn listed(alloc: Global, is_this: bool, call: u64) -> Result<Vec<u64>, AllocError> {
     let mut fails = Vec::new(alloc);
-    if is_this {
+    if is_this && call > 0 {
         fails.push(call)?;
     }
     Ok(fails)
 }
 
-/// Does a script over these files. The call with this number of what fails does so, counted from 1; with 0 none does.
-pub fn run(
+// A folder in memory with these files, of which the call with this number behind them fails.
+fn folder_of(
+    alloc: Global,
+    files: &Files,
+    failing: Failing,
+    call: u64,
+) -> anyhow::Result<MemFolder> {
+    let number = if call > 0 {
+        call.saturating_add(files.len() as u64)
+    } else {
+        0
+    };
+    let mut folder = match failing {
+        Failing::KeepingFolder => MemFolder::keeping(alloc, listed(alloc, true, number)?),
+        _ => MemFolder::new(alloc, listed(alloc, failing == Failing::Folder, number)?),
+    };
+    files.put_all(&mut folder, NAMES, ROOM)?;
+    Ok(folder)
+}
+
+// Does a script over these files. The call with this number of what fails does so, counted from 1; with 0 none does.
+fn run_failing(
     alloc: Global,
     words: &[String],
     files: &Files,
@@ -45,20 +108,14 @@ pub fn run(
     failing: Failing,
     call: u64,
 ) -> anyhow::Result<Done> {
-    let keeps = failing == Failing::KeepingFolder;
-    let of_folder = keeps || failing == Failing::Folder;
-    let mut files = files.failing(if of_folder { call } else { 0 }, keeps)?;
-    let mut source = MemSource::new(
-        script.as_bytes().to_vec(alloc)?,
-        listed(alloc, failing == Failing::Script, call)?,
-    );
-    let mut sink = MemSink::new(alloc, ROOM, listed(alloc, failing == Failing::Sink, call)?)?;
-    let status = session(alloc, words, &mut files, &mut source, &mut sink);
-    let text = String::from_str(alloc, str::from_utf8(sink.bytes())?)?;
+    let mut folder = folder_of(alloc, files, failing, call)?;
+    let of_script = listed(alloc, failing == Failing::Script, call)?;
+    let of_sink = listed(alloc, failing == Failing::Sink, call)?;
+    let answer = run(alloc, words, &mut folder, script, of_script, of_sink)?;
     Ok(Done {
-        status,
-        text,
-        files,
+        answer,
+        folder,
+        before: files.len(),
     })
 }
 
@@ -80,27 +137,30 @@ fn differing(alloc: Global, whole: &str, text: &str) -> Result<String, AllocErro
 
 // How far a run came: its status, its text and its changes against those of the whole run.
 fn reached(alloc: Global, whole: &Done, part: &Done, counts: bool) -> Result<String, AllocError> {
-    let status = part.status;
-    let bytes = part.text.len();
-    let text = match (whole.text.starts_with(part.text.as_str()), counts) {
+    let status = part.answer.status;
+    let bytes = part.answer.text.len();
+    let text = match (
+        whole.answer.text.starts_with(part.answer.text.as_str()),
+        counts,
+    ) {
         (false, _) => String::from_str(alloc, "no front of the text")?,
         (true, true) => format!(in alloc; "bytes {bytes}")?,
         (true, false) => String::from_str(alloc, "a front")?,
     };
-    let count = part.files.changes().len();
-    if !is_front(part.files.changes(), whole.files.changes()) {
+    let count = part.count();
+    if !is_front(part, whole) {
         return format!(in alloc; "status {status}, {text}, no front of the changes");
     }
     format!(in alloc; "status {status}, {text}, changes {count}")
 }
 
-// Whether some changes are the first of others.
-fn is_front(some: &[Change], all: &[Change]) -> bool {
-    some.len() <= all.len() && some.iter().zip(all.iter()).all(|(a, b)| a == b)
+// Whether the changes of a run are the first of those of another.
+fn is_front(some: &Done, all: &Done) -> bool {
+    (0..some.count()).all(|number| some.change(number) == all.change(number))
 }
 
 // What a run without faults writes behind a run, against the whole text.
-fn afterwards(alloc: Global, whole: &Done, again: &Done) -> Result<String, AllocError> {
+fn afterwards(alloc: Global, whole: &Answer, again: &Answer) -> Result<String, AllocError> {
     let status = again.status;
     let lines = differing(alloc, &whole.text, &again.text)?;
     if status != whole.status {
@@ -138,14 +198,14 @@ pub fn table(
     script: &str,
     failing: Failing,
 ) -> anyhow::Result<String> {
-    let whole = run(alloc, words, files, script, failing, 0)?;
+    let whole = run_failing(alloc, words, files, script, failing, 0)?;
     let mut out = String::new(alloc);
     let mut said = String::new(alloc);
     let mut then = String::new(alloc);
     let mut first = 1;
     for call in 1..u64::MAX {
-        let part = run(alloc, words, files, script, failing, call)?;
-        let ends = part.status == whole.status && part.text.as_str() == whole.text.as_str();
+        let part = run_failing(alloc, words, files, script, failing, call)?;
+        let ends = part.answer == whole.answer;
         let says = reached(alloc, &whole, &part, failing != Failing::Sink)?;
         if ends || says.as_str() != said.as_str() {
             put_calls(alloc, &mut out, first, call - 1, &said)?;
@@ -153,8 +213,9 @@ pub fn table(
             if ends {
                 return Ok(out);
             }
-            let again = run(alloc, words, &part.files, script, failing, 0)?;
-            then = afterwards(alloc, &whole, &again)?;
+            let left = Files::of(alloc, &part.folder)?;
+            let again = run_failing(alloc, words, &left, script, failing, 0)?;
+            then = afterwards(alloc, &whole.answer, &again.answer)?;
             first = call;
             said = says;
         }

@@ -1,28 +1,17 @@
-//! Files in memory that can also be removed and changed, and whose calls can fail.
+//! Files in memory that can also be removed and changed.
 
 ghost use Rattle.std.specs.Prelude.{◌≡◌, ◌≤◌, None, false};
 ghost use Rattle.ob_io.specs.Io.{Rose};
 
-use ob_io::{Failed, Folder, FolderFault, Shelf};
+use ob_io::{Failed, Folder, FolderFault, MemFolder, Shelf};
 use std::alloc::{AllocError, Global};
 use std::collections::BTreeMap;
 
-/// A file that was replaced, and its new bytes.
-#[derive(PartialEq, Eq, Drop)]
-pub struct Change {
-    name: String,
-    bytes: Vec<u8>,
-}
-
-/// Files by their names. As a folder they tell nothing.
+/// Files by their names. As a folder they tell nothing, and fail only where there is no memory.
 #[derive(Drop)]
 pub struct Files {
     alloc: Global,
     all: BTreeMap<String, Vec<u8>>,
-    changes: Vec<Change>,
-    made: u64,
-    fails: u64,
-    keeps: bool,
     faults: u64,
 }
 
@@ -31,26 +20,45 @@ impl Files {
         Files {
             alloc,
             all: BTreeMap::new(alloc),
-            changes: Vec::new(alloc),
-            made: 0,
-            fails: 0,
-            keeps: false,
             faults: 0,
         }
     }
 
-    /// The same files, of whose calls the one with this number fails, counted from 1; with 0 none does. After a failed
-    /// replace the name keeps the new bytes or the old file.
-    pub fn failing(&self, fails: u64, keeps: bool) -> Result<Files, AllocError> {
-        Ok(Files {
-            alloc: self.alloc,
-            all: self.all.clone()?,
-            changes: Vec::new(self.alloc),
-            made: 0,
-            fails,
-            keeps,
-            faults: 0,
-        })
+    /// The newest file of each name of a folder.
+    pub fn of(alloc: Global, folder: &MemFolder) -> anyhow::Result<Files> {
+        let mut files = Files::new(alloc);
+        for number in 0..usize::MAX {
+            let Some((name, bytes)) = folder.file_at(number) else {
+                return Ok(files);
+            };
+            files.put(str::from_utf8(name)?, bytes)?;
+        }
+        Ok(files)
+    }
+
+    /// How many files there are.
+    pub fn len(&self) -> usize {
+        self.all.len()
+    }
+
+    /// Puts all files in a folder, which has room for so many more files, and bytes in them and in their names, then.
+    pub fn put_all(
+        &self,
+        folder: &mut MemFolder,
+        names: usize,
+        bytes: usize,
+    ) -> anyhow::Result<()> {
+        let mut size = bytes;
+        for (name, bytes) in &self.all {
+            size = size.saturating_add(name.len()).saturating_add(bytes.len());
+        }
+        folder.reserve(self.len().saturating_add(names), size)?;
+        for (name, bytes) in &self.all {
+            if folder.replace(name, bytes).is_err() {
+                anyhow::bail!("a file was not put");
+            }
+        }
+        Ok(())
     }
 
     /// The bytes of a file; none where it is not there.
@@ -59,11 +67,6 @@ impl Files {
             Some(bytes) => Some(bytes.as_slice()),
             None => None,
         }
-    }
-
-    /// What was replaced, in order.
-    pub fn changes(&self) -> &[Change] {
-        self.changes.as_slice()
     }
 
     /// From here on the name has these bytes.
@@ -79,25 +82,6 @@ impl Files {
     /// From here on the name has no file.
     pub fn remove(&mut self, name: &str) {
         let _ = self.all.remove(name);
-    }
-
-    // Replaces a file, and remembers it.
-    fn change(&mut self, name: &str, bytes: &[u8]) -> Result<(), AllocError>
-        ensures { self.new.faults ≡ self.old.faults }
-    {
-        self.changes.push(Change {
-            name: String::from_str(self.alloc, name)?,
-            bytes: bytes.to_vec(self.alloc)?,
-        })?;
-        self.put(name, bytes)
-    }
-
-    // Counts a call, and answers whether it is to fail.
-    fn is_failing(&mut self) -> bool
-        ensures { self.new.faults ≡ self.old.faults }
-    {
-        self.made = self.made.saturating_add(1);
-        self.made == self.fails
     }
 
     // Counts a fault.
@@ -122,10 +106,6 @@ impl Shelf for Files {
         name: &str,
         limit: usize,
     ) -> Result<Option<Vec<u8>>, FolderFault> {
-        if self.is_failing() {
-            self.count_fault();
-            return Err(FolderFault::Failed);
-        }
         let Some(bytes) = self.all.get(name) else {
             return Ok(None);
         };
@@ -141,9 +121,7 @@ impl Shelf for Files {
 
 impl Folder for Files {
     fn replace(&mut self, name: &str, bytes: &[u8]) -> Result<(), Failed> {
-        let fails = self.is_failing();
-        let changed = (!fails || self.keeps) && self.change(name, bytes).is_ok();
-        if fails || !changed {
+        if self.put(name, bytes).is_err() {
             self.count_fault();
             return Err(Failed);
         }
