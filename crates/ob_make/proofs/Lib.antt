@@ -1,4 +1,5 @@
 pub mod Filing
+pub mod Keeping
 pub mod Visits
 pub mod Names
 pub mod Needing

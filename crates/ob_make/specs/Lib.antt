@@ -4,6 +4,7 @@ pub mod Stale
 pub mod Folder
 pub mod Answers
 pub mod Filing
+pub mod Faces
 pub mod Standing
 pub mod Walking
 pub mod Laws

@@ -1,14 +1,9 @@
 -- How a module stands before its source is looked at.
-use Rattle.std.specs.Prelude.{◌≡◌, Bool, true, false, Result, Ok, Err}
-use Rattle.ob_tree.specs.declared.print.Print.{Print}
-use Rattle.ob_types.specs.declared.face.Interface.{Interface}
-use Rattle.ob_env.specs.Faces.{Face, face_of}
+use Rattle.std.specs.Prelude.{Bool, true, false, Result, Ok, Err}
 use Rattle.ob_cmp.specs.Check.{Present, NotThere, TooLong, Refused, There}
 use Rattle.ob_make.specs.Seen.{Has}
-use Rattle.ob_make.specs.Filing.{seen}
 use Rattle.ob_make.specs.declared.fault.MakeFault.{MakeFault}
 use Rattle.ob_make.specs.declared.fault.MakeFault.TheVariants as fault
-use Rattle.ob_make.specs.declared.files.Filed.{Filed}
 use Rattle.ob_make.specs.declared.turns.Turn.{Turn}
 use Rattle.ob_make.specs.declared.turns.Turn.TheVariants as turn
 use Rattle.ob_make.specs.declared.staleness.State.{State}
@@ -45,10 +40,10 @@ turn_by made state.Missing sourceless = missing_turn made sourceless
 turn_by made state.Stale sourceless = by_source sourceless
 turn_by made state.Fresh sourceless = turn.Stays
 
--- the symbol file of the module was read, or why not
-abbrev pub Refreshes : Present (Face Print) → Filed Interface → Result (Unit {0}) MakeFault → Type 0
-Refreshes p face (Ok u) = p ≡ seen face_of face
-Refreshes p face (Err (fault.Cycle m)) = ⊥
-Refreshes p face (Err (fault.TooMany count)) = ⊥
-Refreshes p face (Err fault.Folder) = Unit {0}
-Refreshes p face (Err fault.Memory) = Unit {0}
+-- a symbol file was read; of the faults only a failed folder and want of memory come
+abbrev pub Learns : Result (Unit {0}) MakeFault → Type 0
+Learns (Ok u) = Unit {0}
+Learns (Err (fault.Cycle m)) = ⊥
+Learns (Err (fault.TooMany count)) = ⊥
+Learns (Err fault.Folder) = Unit {0}
+Learns (Err fault.Memory) = Unit {0}

@@ -1,6 +1,6 @@
 //! Whether a module is stale, and what is done of it at its turn.
 
-ghost use Rattle.std.specs.Prelude.{◌≡◌, true, ◌||◌, not, map as each, OnOk, bytes_eq, Option};
+ghost use Rattle.std.specs.Prelude.{◌≡◌, true, ◌||◌, not, map as each, bytes_eq, Option};
 ghost use Rattle.std.specs.Option.{option_copied};
 ghost use Rattle.ob_sym.specs.Grammar.{face as face_form};
 ghost use Rattle.ob_env.specs.Faces.{wanted_of, face_of};
@@ -12,10 +12,12 @@ ghost use Rattle.ob_make.specs.Stale.{fails, is_met, is_stale, is_there, meets, 
 ghost use Rattle.ob_make.specs.Folder.{has_of, seen_in, prints};
 ghost use Rattle.ob_make.specs.Answers.{AnswersAs, MakeHasCause};
 ghost use Rattle.ob_make.specs.Filing.{IsFaceOf, seen};
-ghost use Rattle.ob_make.specs.Standing.{Refreshes, by_stale, is_stale_state, state_in, turn_by};
+ghost use Rattle.ob_make.specs.Faces.{KeepsFaces};
+ghost use Rattle.ob_make.specs.Standing.{by_stale, is_stale_state, state_in, turn_by};
 
+use crate::faces::Faces;
 use crate::fault::MakeFault;
-use crate::files::{Filed, find_face, find_file, find_source};
+use crate::files::{Filed, find_file, find_source};
 use crate::turns::Turn;
 use ob_cmp::find_object;
 use ob_io::Shelf;
@@ -88,60 +90,25 @@ fn meets(face: &Filed<Interface>, of: &Use) -> bool
     }
 }
 
-// Reads the symbol file of a module, unless it was the last that was read.
-fn refresh<F: Shelf>(
-    alloc: Global,
-    folder: &mut F,
-    read: &mut Name,
-    face: &mut Filed<Interface>,
-    name: &Name,
-) -> Result<(), MakeFault>
-    requires of { IsFaceOf read.old face.old }
-    requires read { F.tells folder.old ≡ true → symbols_of (F.files folder.old) read.old ≡ seen face_of face.old }
-    ensures told { F.tells folder.new ≡ F.tells folder.old }
-    ensures files { F.tells folder.old ≡ true → F.files folder.new ≡ F.files folder.old }
-    ensures refreshed { F.tells folder.old ≡ true → Refreshes (symbols_of (F.files folder.old) name.now) face.new result }
-    ensures read { OnOk result (read.new ≡ name.now) }
-    ensures of { OnOk result (IsFaceOf name.now face.new) }
-    ensures cause { MakeHasCause (F.faults folder.old) (F.faults folder.new) result }
-{
-    if read.as_bytes() == name.as_bytes() {
-        return Ok(());
-    }
-    let found = find_face(alloc, folder, name)?;
-    *face = found;
-    *read = *name;
-    Ok(())
-}
-
-// Whether one of these uses is not met. The symbol file of the module is given. The uses of a module stand
-// together, so its file is read once.
+// Whether one of these uses is not met.
 fn fails<F: Shelf>(
     alloc: Global,
     folder: &mut F,
-    module: &Name,
-    given: Filed<Interface>,
+    faces: &mut Faces,
     uses: &[Use],
 ) -> Result<bool, MakeFault>
-    requires of { IsFaceOf «module».now given }
-    requires read { F.tells folder.old ≡ true → symbols_of (F.files folder.old) «module».now ≡ seen face_of given }
+    requires keeps { F.tells folder.old ≡ true → KeepsFaces (symbols_of (F.files folder.old)) faces.old }
     ensures told { F.tells folder.new ≡ F.tells folder.old }
     ensures files { F.tells folder.old ≡ true → F.files folder.new ≡ F.files folder.old }
+    ensures keeps { F.tells folder.old ≡ true → KeepsFaces (symbols_of (F.files folder.old)) faces.new }
     ensures fails { F.tells folder.old ≡ true → AnswersAs (fails prints (symbols_of (F.files folder.old)) (each wanted_of uses.now)) result }
     ensures cause { MakeHasCause (F.faults folder.old) (F.faults folder.new) result }
 {
-    let mut read = *module;
-    let mut face = given;
     let mut rest = uses;
     while let [of, more @ ..] = rest {
-        refresh(
-            alloc,
-            folder,
-            &mut read,
-            &mut face,
-            &of.object.module.name(),
-        )?;
-        if !meets(&face, of) {
+        let name = of.object.module.name();
+        faces.learn(alloc, folder, &name)?;
+        if !meets(faces.get(&name), of) {
             return Ok(true);
         }
         rest = more;
@@ -164,19 +131,22 @@ fn is_there(face: &Filed<Interface>) -> bool
 fn is_stale_with<F: Shelf>(
     alloc: Global,
     folder: &mut F,
+    faces: &mut Faces,
     module: &Name,
     file: &ObjFile,
 ) -> Result<bool, MakeFault>
+    requires keeps { F.tells folder.old ≡ true → KeepsFaces (symbols_of (F.files folder.old)) faces.old }
     ensures told { F.tells folder.new ≡ F.tells folder.old }
     ensures files { F.tells folder.old ≡ true → F.files folder.new ≡ F.files folder.old }
+    ensures keeps { F.tells folder.old ≡ true → KeepsFaces (symbols_of (F.files folder.old)) faces.new }
     ensures stale { F.tells folder.old ≡ true → AnswersAs (not (is_there (symbols_of (F.files folder.old) «module».now)) || fails prints (symbols_of (F.files folder.old)) (each wanted_of file.now.head.uses)) result }
     ensures cause { MakeHasCause (F.faults folder.old) (F.faults folder.new) result }
 {
-    let face = find_face(alloc, folder, module)?;
-    if !is_there(&face) {
+    faces.learn(alloc, folder, module)?;
+    if !is_there(faces.get(module)) {
         return Ok(true);
     }
-    fails(alloc, folder, module, face, file.head.uses.as_slice())
+    fails(alloc, folder, faces, file.head.uses.as_slice())
 }
 
 fn by_stale(stale: bool) -> State
@@ -186,9 +156,16 @@ fn by_stale(stale: bool) -> State
 }
 
 // How a module stands.
-fn look<F: Shelf>(alloc: Global, folder: &mut F, module: &Name) -> Result<State, MakeFault>
+fn look<F: Shelf>(
+    alloc: Global,
+    folder: &mut F,
+    faces: &mut Faces,
+    module: &Name,
+) -> Result<State, MakeFault>
+    requires keeps { F.tells folder.old ≡ true → KeepsFaces (symbols_of (F.files folder.old)) faces.old }
     ensures told { F.tells folder.new ≡ F.tells folder.old }
     ensures files { F.tells folder.old ≡ true → F.files folder.new ≡ F.files folder.old }
+    ensures keeps { F.tells folder.old ≡ true → KeepsFaces (symbols_of (F.files folder.old)) faces.new }
     ensures state { F.tells folder.old ≡ true → AnswersAs (state_in (has_of (F.files folder.old) «module».now) (is_stale prints (seen_in (F.files folder.old)) «module».now)) result }
     ensures cause { MakeHasCause (F.faults folder.old) (F.faults folder.new) result }
 {
@@ -198,7 +175,7 @@ fn look<F: Shelf>(alloc: Global, folder: &mut F, module: &Name) -> Result<State,
         Filed::Long => Ok(State::Stale),
         Filed::Damaged => Ok(State::Stale),
         Filed::Holds(file) => {
-            let stale = is_stale_with(alloc, folder, module, &file)?;
+            let stale = is_stale_with(alloc, folder, faces, module, &file)?;
             Ok(by_stale(stale))
         }
     }
@@ -225,7 +202,8 @@ pub fn stale<F: Shelf>(alloc: Global, folder: &mut F, module: &Name) -> Result<b
     ensures stale { F.tells folder.old ≡ true → AnswersAs (is_stale prints (seen_in (F.files folder.old)) «module».now) result }
     ensures cause { MakeHasCause (F.faults folder.old) (F.faults folder.new) result }
 {
-    let state = look(alloc, folder, module)?;
+    let mut faces = Faces::new(alloc);
+    let state = look(alloc, folder, &mut faces, module)?;
     Ok(is_stale_state(state))
 }
 
@@ -263,22 +241,26 @@ fn turn_by(made: bool, state: State, sourceless: bool) -> Turn
 
 /// What a make of `made` does of `module` when its turn comes, by the files as they are: nothing, where it
 /// is up to date, or where it has neither source nor object file and is not the one that is made; else it
-/// is compiled, or refused where its source is missing or names another module.
+/// is compiled, or refused where its source is missing or names another module. What it reads of symbol
+/// files is kept.
 ///
 /// It answers `Folder` only where the folder failed and its count of faults rose, and neither `Cycle` nor
 /// `TooMany`. The files stay as they are.
 pub fn turn<F: Shelf>(
     alloc: Global,
     folder: &mut F,
+    faces: &mut Faces,
     made: &Name,
     module: &Name,
 ) -> Result<Turn, MakeFault>
+    requires keeps { F.tells folder.old ≡ true → KeepsFaces (symbols_of (F.files folder.old)) faces.old }
     ensures told { F.tells folder.new ≡ F.tells folder.old }
     ensures files { F.tells folder.old ≡ true → F.files folder.new ≡ F.files folder.old }
+    ensures keeps { F.tells folder.old ≡ true → KeepsFaces (symbols_of (F.files folder.old)) faces.new }
     ensures turn { F.tells folder.old ≡ true → AnswersAs (turn_in prints (seen_in (F.files folder.old)) made.now «module».now) result }
     ensures cause { MakeHasCause (F.faults folder.old) (F.faults folder.new) result }
 {
-    let state = look(alloc, folder, module)?;
+    let state = look(alloc, folder, faces, module)?;
     if !is_stale_state(state) {
         return Ok(Turn::Stays);
     }

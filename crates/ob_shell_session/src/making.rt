@@ -6,6 +6,8 @@ ghost use Rattle.ob_make.specs.declared.fault.MakeFault.TheVariants as fault_is;
 ghost use Rattle.ob_shell_reports.specs.declared.stop.Stop.TheVariants as stop_is;
 ghost use Rattle.ob_make.specs.Folder.{source_name, seen_in, prints};
 ghost use Rattle.ob_make.specs.Stale.{turn_in};
+ghost use Rattle.ob_make.specs.Faces.{KeepsFaces};
+ghost use Rattle.ob_cmp.specs.Check.{symbols_of};
 ghost use Rattle.ob_load.specs.Standing.{Standing};
 ghost use Rattle.ob_shell_reports.specs.Prints.{SinkCause};
 ghost use Rattle.ob_shell_reports.specs.Texts.{refused, no_source};
@@ -17,7 +19,7 @@ ghost use Rattle.ob_shell_session.specs.Made.{rest_of_make, NoOrder, stop_at};
 use crate::compiling::do_compile;
 use ob_compile_trait::Compile;
 use ob_io::{Folder, Sink};
-use ob_make::{MakeFault, Turn, order, turn};
+use ob_make::{Faces, MakeFault, Turn, order, turn};
 use ob_shell_reports::{Stop, put_made, refuse, refuse_cycle, refuse_many};
 use ob_tree::Name;
 use std::alloc::{AllocError, Global};
@@ -97,31 +99,36 @@ fn stop_at(fault: &MakeFault) -> Stop
 fn turn_of<F: Folder>(
     alloc: Global,
     folder: &mut F,
+    faces: &mut Faces,
     made: &Name,
     module: &Name,
 ) -> Result<Turn, Stop>
+    requires keeps { F.tells folder.old ≡ true → KeepsFaces (symbols_of (F.files folder.old)) faces.old }
     ensures told { F.tells folder.new ≡ F.tells folder.old }
     ensures files { F.tells folder.old ≡ true → F.files folder.new ≡ F.files folder.old }
+    ensures keeps { F.tells folder.old ≡ true → KeepsFaces (symbols_of (F.files folder.old)) faces.new }
     ensures turn { F.tells folder.old ≡ true → IfOk result (λ t. turn_in prints (seen_in (F.files folder.old)) made.now «module».now ≡ t) }
     ensures cause { FolderCause (F.faults folder.old) (F.faults folder.new) result }
 {
-    match turn(alloc, folder, made, module) {
+    match turn(alloc, folder, faces, made, module) {
         Ok(turn) => Ok(turn),
         Err(fault) => Err(stop_at(&fault)),
     }
 }
 
 // Gives these modules their turns in a make of `made`, behind so many that were compiled, and prints at
-// the end how many those are.
+// the end how many those are. What was read of symbol files is kept until a module is compiled.
 fn do_turns<F: Folder, C: Compile, O: Sink>(
     alloc: Global,
     folder: &mut F,
+    faces: &mut Faces,
     compiler: &mut C,
     made: &Name,
     modules: &[Name],
     count: u32,
     out: &mut O,
 ) -> Result<bool, Stop>
+    requires keeps { F.tells folder.old ≡ true → KeepsFaces (symbols_of (F.files folder.old)) faces.old }
     ensures does { (w : World) → (s : Standing) → count + length modules.now ≤ 255 → Shows s (F.files folder.old) w → F.tells folder.old ≡ true → O.tells out.old ≡ true → LineDoes (O.taken out.old) (O.taken out.new) (F.files folder.old) (F.files folder.new) s (rest_of_make made.now count modules.now w) result }
     ensures told_folder { F.tells folder.new ≡ F.tells folder.old }
     ensures told_sink { O.tells out.new ≡ O.tells out.old }
@@ -129,13 +136,14 @@ fn do_turns<F: Folder, C: Compile, O: Sink>(
 {
     match modules {
         [] => put_made(made, count, out),
-        [module, rest @ ..] => match turn_of(alloc, folder, made, module) {
-            Ok(Turn::Stays) => do_turns(alloc, folder, compiler, made, rest, count, out),
+        [module, rest @ ..] => match turn_of(alloc, folder, faces, made, module) {
+            Ok(Turn::Stays) => do_turns(alloc, folder, faces, compiler, made, rest, count, out),
             Ok(Turn::Compiles) => match compile_module(alloc, folder, compiler, module, out) {
                 Ok(true) => Ok(true),
                 Ok(false) => {
+                    *faces = Faces::new(alloc);
                     let count = count.saturating_add(1);
-                    do_turns(alloc, folder, compiler, made, rest, count, out)
+                    do_turns(alloc, folder, faces, compiler, made, rest, count, out)
                 }
                 Err(stop) => Err(stop),
             },
@@ -162,7 +170,11 @@ pub fn do_make<F: Folder, C: Compile, O: Sink>(
     ensures cause { Cause (O.faults out.old) (O.faults out.new) (F.faults folder.old) (F.faults folder.new) result }
 {
     match order(alloc, folder, name) {
-        Ok(modules) => do_turns(alloc, folder, compiler, name, modules.as_slice(), 0, out),
+        Ok(modules) => {
+            let mut faces = Faces::new(alloc);
+            let names = modules.as_slice();
+            do_turns(alloc, folder, &mut faces, compiler, name, names, 0, out)
+        }
         Err(fault) => refuse_order(name, &fault, out),
     }
 }
